@@ -1,0 +1,5 @@
+pub mod Operators
+pub mod Records
+pub mod Tables
+pub mod Values
+pub mod Stimuli

@@ -1,0 +1,81 @@
+-- Records and their fields: decoding gives back what was encoded; a record that is read is what its fields decode to,
+-- and none of grounds 5 to 10 holds of them.
+-- Assumes nothing.
+use mathlib.Core.Path.{_≡_, refl, sym, ap}
+use mathlib.Core.Bool.{Bool, true, false, not, _||_}
+use mathlib.Core.List.{_∷_}
+use Prim.Native.Nat.{ℕ, _^_, _<_, _≤_}
+use native.Mathlib.Omega.{arith}
+use borrow.Author.Tests.{ltb-false, leb-false, eqb-false, not-false}
+use lib.Dec.{eqb, leb, ltb}
+use Rattle.net.specs.Tests.{every}
+use Rattle.circuit.specs.declared.record.Fields.{Fields}
+use Rattle.circuit.specs.declared.record.InputKind.the-variants.{Fixed, Free, Secret}
+use Rattle.circuit.specs.declared.record.Record.{Record}
+use Rattle.circuit.specs.declared.record.Record.the-variants.{Input, Constant, Operator, Multiplexer, Register}
+use Rattle.circuit.specs.declared.record.ReadRecord.{ReadRecord}
+use Rattle.circuit.specs.declared.record.ReadRecord.the-variants.{Read, Refused}
+use Rattle.circuit.specs.declared.refusal.Ground.{Ground}
+use Rattle.circuit.specs.declared.refusal.Ground.the-variants.{UnknownKind, BadWidth, UnknownCode, UnusedNotZero, NoSuchVariable, ValueTooWide}
+use Rattle.circuit.specs.Record.{uses}
+use Rattle.circuit.specs.Reading.{decode, encode, codes, unused, refuseRecord, readRecord}
+use Rattle.circuit.proofs.Operators.{operator-code}
+
+pub decode-encode : (r : Record) → decode (encode r) ≡ r
+unfolding decode
+decode-encode (Input w (Fixed n)) = refl
+decode-encode (Input w Free) = refl
+decode-encode (Input w Secret) = refl
+decode-encode (Constant w n) = refl
+decode-encode (Operator w op a b) = ap (λ o. Operator w o a b) (operator-code op)
+decode-encode (Multiplexer w a b c) = refl
+decode-encode (Register w a n) = refl
+
+-- none of grounds 5 to 10 holds of a record's fields, among n records
+pub record Valid (f : Fields) (n : ℕ) : Type 0 where
+  pub kind : f .kind ≤ 4
+  pub width-some : 0 < f .width
+  pub width-most : f .width ≤ 32
+  pub code : f .code < codes (f .kind)
+  pub zeros : every (λ x. eqb x 0) (f .byte3 ∷ f .bytes10 ∷ unused (decode f) f) ≡ true
+  pub variables : every (λ v. ltb v n) (uses (decode f)) ≡ true
+  pub value : f .value < 2 ^ f .width
+
+-- a test that does not refuseRecord fails, and what is tried next gives the record
+passed : (ground : Ground) (b : Bool) (next : ReadRecord) (r : Record) → refuseRecord ground b next ≡ Read r
+    → (b ≡ false) × (next ≡ Read r)
+passed ground true next r e = absurd (let z : _≡_ {A = ℕ} 0 1 = cc in omega arith)
+passed ground false next r e = (refl, e)
+
+or-false : (a b : Bool) → (a || b) ≡ false → (a ≡ false) × (b ≡ false)
+or-false true b e = absurd (let z : _≡_ {A = ℕ} 0 1 = cc in omega arith)
+or-false false b e = (refl, e)
+
+same-record : {x y : Record} → Read x ≡ Read y → x ≡ y
+same-record e = cc
+
+positive : (n : ℕ) → (n ≡ 0 → ⊥) → 0 < n
+positive n ne = omega arith
+
+pub read-valid : (f : Fields) (n : ℕ) (r : Record) → readRecord f n ≡ Read r → Valid f n × (r ≡ decode f)
+unfolding readRecord
+read-valid f n r e =
+    let p5 = passed UnknownKind (ltb 4 (f .kind)) _ r e in
+    let p6 = passed BadWidth (eqb (f .width) 0 || ltb 32 (f .width)) _ r (p5 .1) in
+    let p7 = passed UnknownCode (leb (codes (f .kind)) (f .code)) _ r (p6 .1) in
+    let p8 =
+    passed UnusedNotZero (not (every (λ x. eqb x 0) (f .byte3 ∷ f .bytes10 ∷ unused (decode f) f))) _ r (p7 .1) in
+    let p9 = passed NoSuchVariable (not (every (λ v. ltb v n) (uses (decode f)))) _ r (p8 .1) in
+    let p10 = passed ValueTooWide (leb (2 ^ f .width) (f .value)) _ r (p9 .1) in
+    let w = or-false (eqb (f .width) 0) (ltb 32 (f .width)) (p6 .0) in (
+      record {
+        kind = ltb-false 4 (f .kind) (p5 .0);
+        width-some = positive (f .width) (eqb-false (f .width) 0 (w .0));
+        width-most = ltb-false 32 (f .width) (w .1);
+        code = leb-false (codes (f .kind)) (f .code) (p7 .0);
+        zeros = not-false _ (p8 .0);
+        variables = not-false _ (p9 .0);
+        value = leb-false (2 ^ f .width) (f .value) (p10 .0);
+      },
+      sym (same-record (p10 .1)),
+    )

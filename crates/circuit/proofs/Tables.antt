@@ -1,0 +1,85 @@
+-- What holds of a table that meets none of grounds 5 to 10: its circuit has its records, and they use its variables
+-- alone. A circuit of which that holds, and that has no loop, has a rank.
+-- Assumes nothing.
+use mathlib.Core.Path.{_≡_, refl, sym, ap, _∙_, subst}
+use mathlib.Core.Logic.{⊎-elim}
+use mathlib.Core.List.{List}
+use Prim.Native.Nat.{ℕ, zero, suc, _+_, _*_, _<_, _≤_}
+use native.Mathlib.Nat.{le-refl}
+use native.Mathlib.Decide.{ℕ-discrete}
+use native.Mathlib.Omega.{arith}
+use borrow.Author.Tests.{ltb-true}
+use lib.Dec.{T, ltb}
+use lib.ListN.{length, getD}
+use Rattle.net.specs.Tests.{every, member}
+use Rattle.net.specs.Net.{listBelow}
+use Rattle.net.specs.Loop.{Uses}
+use Rattle.net.proofs.Bools.{T-of, of-T, every-at}
+use Rattle.net.proofs.Lists.{length-listBelow, getD-listBelow}
+use Rattle.net.proofs.Loops.{ranked-or-loop}
+use Rattle.net.proofs.Settle.{Ranked}
+use Rattle.circuit.specs.declared.refusal.Check.{Check}
+use Rattle.circuit.specs.declared.refusal.Check.the-variants as check
+use Rattle.circuit.specs.declared.record.ReadRecord.{ReadRecord}
+use Rattle.circuit.specs.declared.record.ReadRecord.the-variants.{Read, Refused}
+use Rattle.circuit.specs.declared.record.Record.{Record}
+use Rattle.circuit.specs.Record.{uses}
+use Rattle.circuit.specs.Refusal.{_then_}
+use Rattle.circuit.specs.Reading.{fieldsAt, decode, readRecord}
+use Rattle.circuit.specs.Circuit.{Circuit, circuit, recordOf, graph, NoLoop}
+use Rattle.circuit.specs.Checks.{atRecord, checkRecordsFrom, checkRecords}
+use Rattle.circuit.proofs.Records.{Valid, read-valid}
+
+-- ---- the records
+
+-- two checks pass where each does
+then-passed : (a b : Check) → (a then b) ≡ check.Passed → (a ≡ check.Passed) × (b ≡ check.Passed)
+then-passed check.Passed b e = (refl, e)
+then-passed (check.Refused ground place) b e = absurd (let z : _≡_ {A = ℕ} 0 1 = cc in omega arith)
+
+record-read : (x : ReadRecord) (i : ℕ) → atRecord x i ≡ check.Passed → (r : Record) × (x ≡ Read r)
+record-read (Read r) i e = (r, refl)
+record-read (Refused ground) i e = absurd (let z : _≡_ {A = ℕ} 0 1 = cc in omega arith)
+
+valid-from : (t : List ℕ) (n count i : ℕ) → checkRecordsFrom t n count i ≡ check.Passed
+    → (j : ℕ) → i ≤ j → j < i + count → Valid (fieldsAt t (j * 16)) n
+unfolding checkRecordsFrom
+valid-from t n zero i e j low high = absurd (omega arith)
+valid-from t n (suc count) i e j low high =
+    let (here, later) =
+    then-passed (atRecord (readRecord (fieldsAt t (i * 16)) n) i) (checkRecordsFrom t n count (i + 1)) e in
+    let (r, d) = record-read (readRecord (fieldsAt t (i * 16)) n) i here in
+    elim (ℕ-discrete i j) [
+      | yes q ↦ subst (λ (k : ℕ). Valid (fieldsAt t (k * 16)) n) q (read-valid (fieldsAt t (i * 16)) n r d .0)
+      | no q ↦ valid-from t n count (i + 1) later j (omega arith) (omega arith)
+    ]
+
+-- no ground from 5 to 10 holds of any record
+pub records-valid : (t : List ℕ) (n : ℕ) → checkRecords t n ≡ check.Passed → (i : ℕ) → i < n
+    → Valid (fieldsAt t (i * 16)) n
+unfolding checkRecords
+records-valid t n e i h = valid-from t n n 0 e i (omega arith) (omega arith)
+
+-- ---- the circuit
+
+pub circuit-length : (t : List ℕ) (n : ℕ) → length (circuit t n) ≡ n
+unfolding circuit
+circuit-length t n = length-listBelow _ n
+
+pub circuit-record : (t : List ℕ) (n i : ℕ) → i < n → recordOf (circuit t n) i ≡ decode (fieldsAt t (i * 16))
+unfolding circuit
+circuit-record t n i h = getD-listBelow _ n i _ h
+
+-- every variable that a record of the circuit uses is one of the circuit's
+abbrev pub Inside : Circuit → Type 0
+Inside c = (v u : ℕ) → v < length c → Uses (graph c) v u → u < length c
+
+pub circuit-inside : (t : List ℕ) (n : ℕ) → checkRecords t n ≡ check.Passed → Inside (circuit t n)
+circuit-inside t n e v u h m =
+    let below : v < n = omega (arith, circuit-length t n) in
+    let used : T (member u (uses (decode (fieldsAt t (v * 16))))) = rw (circuit-record t n v below) at m in
+    let q = every-at (λ x. ltb x n) _ (T-of _ (records-valid t n e v below .variables)) u used in
+    omega (arith, circuit-length t n, ltb-true u n (of-T _ q))
+
+pub circuit-ranked : (c : Circuit) → Inside c → NoLoop c → Ranked (graph c)
+circuit-ranked c inside none = ⊎-elim (λ r. r) (λ l. absurd (none (l .0) (l .1))) (ranked-or-loop (graph c) inside)

@@ -1,0 +1,10 @@
+pub mod Number
+pub mod Refusal
+pub mod Operator
+pub mod Record
+pub mod Reading
+pub mod Circuit
+pub mod Checks
+pub mod Machine
+pub mod Stimuli
+pub mod Runs

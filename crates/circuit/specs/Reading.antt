@@ -1,0 +1,95 @@
+-- A record from its 16 bytes and the number of records: its fields, what they read as, and grounds 5 to 10 in order.
+-- Assumes nothing.
+use mathlib.Core.Bool.{Bool, true, false, not, _||_}
+use mathlib.Core.List.{List, [], _∷_}
+use Prim.Native.Nat.{ℕ, _+_, _^_}
+use lib.Dec.{eqb, leb, ltb}
+use lib.ListN.{getD}
+use Rattle.net.specs.Tests.{every}
+use Rattle.circuit.specs.declared.record.Fields.{Fields}
+use Rattle.circuit.specs.declared.record.InputKind.{InputKind}
+use Rattle.circuit.specs.declared.record.InputKind.the-variants.{Fixed, Free, Secret}
+use Rattle.circuit.specs.declared.record.Record.{Record}
+use Rattle.circuit.specs.declared.record.Record.the-variants.{Input, Constant, Operator, Multiplexer, Register}
+use Rattle.circuit.specs.declared.record.ReadRecord.{ReadRecord}
+use Rattle.circuit.specs.declared.record.ReadRecord.the-variants.{Read, Refused}
+use Rattle.circuit.specs.declared.refusal.Ground.{Ground}
+use Rattle.circuit.specs.declared.refusal.Ground.the-variants.{UnknownKind, BadWidth, UnknownCode, UnusedNotZero, NoSuchVariable, ValueTooWide}
+use Rattle.circuit.specs.Number.{u16At, u32At}
+use Rattle.circuit.specs.Operator.{operatorCode, operatorOf}
+use Rattle.circuit.specs.Record.{uses}
+
+-- the fields of the 16 bytes from a place on
+abbrev pub fieldsAt : List ℕ → ℕ → Fields
+fieldsAt t at = record {
+  kind = getD t at 0;
+  width = getD t (at + 1) 0;
+  code = getD t (at + 2) 0;
+  byte3 = getD t (at + 3) 0;
+  a = u16At t (at + 4);
+  b = u16At t (at + 6);
+  c = u16At t (at + 8);
+  bytes10 = u16At t (at + 10);
+  value = u32At t (at + 12);
+}
+
+-- byte 2 of an input: 0 fixed, 1 free, 2 secret; ground 7 turns away every other, which reads as secret here
+abbrev pub inputKindOf : ℕ → ℕ → InputKind
+inputKindOf code n = getD (Fixed n ∷ Free ∷ []) code Secret
+
+-- byte 0: 0 input, 1 constant, 2 operator, 3 multiplexer, 4 register; ground 5 turns away every other, a register here
+unfoldable pub decode : Fields → Record
+decode f =
+    getD
+    (Input (f .width) (inputKindOf (f .code) (f .value))
+    ∷ Constant (f .width) (f .value)
+    ∷ Operator (f .width) (operatorOf (f .code)) (f .a) (f .b)
+    ∷ Multiplexer (f .width) (f .a) (f .b) (f .c)
+    ∷ [])
+    (f .kind) (Register (f .width) (f .a) (f .value))
+
+-- the fields with the bytes that must be 0
+abbrev fields : ℕ → ℕ → ℕ → ℕ → ℕ → ℕ → ℕ → Fields
+fields kind width code a b c value =
+    record { kind = kind; width = width; code = code; byte3 = 0; a = a; b = b; c = c; bytes10 = 0; value = value }
+
+-- document 01's numbers of each kind of record: kind, width, byte 2, A, B, C and value
+abbrev pub encode : Record → Fields
+encode (Input w (Fixed n)) = fields 0 w 0 0 0 0 n
+encode (Input w Free) = fields 0 w 1 0 0 0 0
+encode (Input w Secret) = fields 0 w 2 0 0 0 0
+encode (Constant w n) = fields 1 w 0 0 0 0 n
+encode (Operator w op a b) = fields 2 w (operatorCode op) a b 0 0
+encode (Multiplexer w a b c) = fields 3 w 0 a b c 0
+encode (Register w a n) = fields 4 w 0 a 0 0 n
+
+-- how many values byte 2 has for a kind: three for an input, nine for an operator, otherwise 0 alone
+abbrev pub codes : ℕ → ℕ
+codes kind = getD (3 ∷ 1 ∷ 9 ∷ []) kind 1
+
+-- the variable numbers and the value that a record does not use
+abbrev pub unused : Record → Fields → List ℕ
+unused (Input w (Fixed n)) f = f .a ∷ f .b ∷ f .c ∷ []
+unused (Input w Free) f = f .a ∷ f .b ∷ f .c ∷ f .value ∷ []
+unused (Input w Secret) f = f .a ∷ f .b ∷ f .c ∷ f .value ∷ []
+unused (Constant w n) f = f .a ∷ f .b ∷ f .c ∷ []
+unused (Operator w op a b) f = f .c ∷ f .value ∷ []
+unused (Multiplexer w a b c) f = f .value ∷ []
+unused (Register w a n) f = f .b ∷ f .c ∷ []
+
+-- refused on a ground where the test holds; else what is tried next
+abbrev pub refuseRecord : Ground → Bool → ReadRecord → ReadRecord
+refuseRecord ground true next = Refused ground
+refuseRecord ground false next = next
+
+-- Grounds 5 to 10, in order, of a record among n records. Where ground 10 is tried, a value that is not used is 0.
+unfoldable pub readRecord : Fields → ℕ → ReadRecord
+unfolding decode every
+readRecord f n =
+    refuseRecord UnknownKind (ltb 4 (f .kind))
+    (refuseRecord BadWidth (eqb (f .width) 0 || ltb 32 (f .width))
+    (refuseRecord UnknownCode (leb (codes (f .kind)) (f .code))
+    (refuseRecord UnusedNotZero (not (every (λ x. eqb x 0) (f .byte3 ∷ f .bytes10 ∷ unused (decode f) f)))
+    (refuseRecord NoSuchVariable (not (every (λ v. ltb v n) (uses (decode f))))
+    (refuseRecord ValueTooWide (leb (2 ^ f .width) (f .value))
+    (Read (decode f)))))))

@@ -1,0 +1,41 @@
+-- The five kinds of record: width, uses, which are inputs, wires and registers, and which inputs are fixed, free or
+-- secret.
+-- Assumes nothing.
+use mathlib.Core.List.{List, [], _∷_}
+use mathlib.Core.Option.{Option, none, some}
+use Prim.Native.Nat.{ℕ}
+use Rattle.net.specs.Net.{Role, input, wire, register}
+use Rattle.circuit.specs.declared.record.InputKind.{InputKind}
+use Rattle.circuit.specs.declared.record.Record.{Record}
+use Rattle.circuit.specs.declared.record.Record.the-variants.{Input, Constant, Operator, Multiplexer, Register}
+
+abbrev pub width : Record → ℕ
+width (Input w k) = w
+width (Constant w n) = w
+width (Operator w op a b) = w
+width (Multiplexer w a b c) = w
+width (Register w a n) = w
+
+-- the variables that a record uses
+abbrev pub uses : Record → List ℕ
+uses (Input w k) = []
+uses (Constant w n) = []
+uses (Operator w op a b) = a ∷ b ∷ []
+uses (Multiplexer w a b c) = a ∷ b ∷ c ∷ []
+uses (Register w a n) = a ∷ []
+
+-- document 01's wires are constants, operators and multiplexers
+abbrev pub role : Record → Role
+role (Input w k) = input
+role (Constant w n) = wire
+role (Operator w op a b) = wire
+role (Multiplexer w a b c) = wire
+role (Register w a n) = register
+
+-- what kind of input a record is, if it is one
+abbrev pub inputOf : Record → Option InputKind
+inputOf (Input w k) = some k
+inputOf (Constant w n) = none
+inputOf (Operator w op a b) = none
+inputOf (Multiplexer w a b c) = none
+inputOf (Register w a n) = none

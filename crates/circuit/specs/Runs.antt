@@ -1,0 +1,84 @@
+-- Bench runs worked by hand, from bytes: the table's 16-byte records, the stimuli of 8 bytes, and the state in the end.
+-- Assumes nothing.
+use mathlib.Core.Path.{_≡_, refl}
+use mathlib.Core.List.{List, [], _∷_, flatten}
+use Prim.Native.Nat.{ℕ, _*_}
+use lib.ListN.{length, take}
+use Rattle.net.specs.Net.{listBelow}
+use Rattle.circuit.specs.declared.refusal.Check.the-variants.{Passed}
+use Rattle.circuit.specs.Refusal.{_then_}
+use Rattle.circuit.specs.Circuit.{circuit}
+use Rattle.circuit.specs.Checks.{checkLength, checkRecords}
+use Rattle.circuit.specs.Machine.{machine}
+use Rattle.circuit.specs.Stimuli.{checkStimuli, stimuli}
+
+pub record Run : Type 0 where
+  pub records : List (List ℕ)
+  pub stimuli : List (List ℕ)
+  pub values : List ℕ
+
+-- the table and the list of stimuli meet none of grounds 1, 2, 5 to 10 and 12 to 17, and the run ends in the values
+abbrev pub RunHolds : List ℕ → ℕ → List ℕ → List ℕ → Type 0
+RunHolds t n s values =
+    (length t ≡ n * 16)
+    × ((checkLength (length t) then checkRecords t n then checkStimuli (circuit t n) s) ≡ Passed)
+    × (listBelow (machine (circuit t n) (stimuli s)) n ≡ values)
+
+abbrev pub RunsHold : List Run → Type 0
+RunsHold [] = Unit {0}
+RunsHold (r ∷ rs) =
+    RunHolds (flatten (r .records)) (length (r .records)) (flatten (r .stimuli)) (r .values) × RunsHold rs
+
+-- Document 000's figure 1, at width 8: in, en, rst, out, prev, t1, t2, t3, t4.
+abbrev accumulator : List (List ℕ)
+accumulator =
+    (0 ∷ 8 ∷ 1 ∷ 0 ∷ 0 ∷ 0 ∷ 0 ∷ 0 ∷ 0 ∷ 0 ∷ 0 ∷ 0 ∷ 0 ∷ 0 ∷ 0 ∷ 0 ∷ [])
+    ∷ (0 ∷ 1 ∷ 1 ∷ 0 ∷ 0 ∷ 0 ∷ 0 ∷ 0 ∷ 0 ∷ 0 ∷ 0 ∷ 0 ∷ 0 ∷ 0 ∷ 0 ∷ 0 ∷ [])
+    ∷ (0 ∷ 1 ∷ 1 ∷ 0 ∷ 0 ∷ 0 ∷ 0 ∷ 0 ∷ 0 ∷ 0 ∷ 0 ∷ 0 ∷ 0 ∷ 0 ∷ 0 ∷ 0 ∷ [])
+    ∷ (4 ∷ 8 ∷ 0 ∷ 0 ∷ 5 ∷ 0 ∷ 0 ∷ 0 ∷ 0 ∷ 0 ∷ 0 ∷ 0 ∷ 0 ∷ 0 ∷ 0 ∷ 0 ∷ [])
+    ∷ (4 ∷ 8 ∷ 0 ∷ 0 ∷ 3 ∷ 0 ∷ 0 ∷ 0 ∷ 0 ∷ 0 ∷ 0 ∷ 0 ∷ 0 ∷ 0 ∷ 0 ∷ 0 ∷ [])
+    ∷ (3 ∷ 8 ∷ 0 ∷ 0 ∷ 2 ∷ 0 ∷ 6 ∷ 0 ∷ 7 ∷ 0 ∷ 0 ∷ 0 ∷ 0 ∷ 0 ∷ 0 ∷ 0 ∷ [])
+    ∷ (1 ∷ 8 ∷ 0 ∷ 0 ∷ 0 ∷ 0 ∷ 0 ∷ 0 ∷ 0 ∷ 0 ∷ 0 ∷ 0 ∷ 0 ∷ 0 ∷ 0 ∷ 0 ∷ [])
+    ∷ (3 ∷ 8 ∷ 0 ∷ 0 ∷ 1 ∷ 0 ∷ 8 ∷ 0 ∷ 3 ∷ 0 ∷ 0 ∷ 0 ∷ 0 ∷ 0 ∷ 0 ∷ 0 ∷ [])
+    ∷ (2 ∷ 8 ∷ 0 ∷ 0 ∷ 3 ∷ 0 ∷ 0 ∷ 0 ∷ 0 ∷ 0 ∷ 0 ∷ 0 ∷ 0 ∷ 0 ∷ 0 ∷ 0 ∷ [])
+    ∷ []
+
+-- poke en 1; poke in 2; tick; tick
+abbrev accumulation : List (List ℕ)
+accumulation =
+    (0 ∷ 0 ∷ 1 ∷ 0 ∷ 1 ∷ 0 ∷ 0 ∷ 0 ∷ [])
+    ∷ (0 ∷ 0 ∷ 0 ∷ 0 ∷ 2 ∷ 0 ∷ 0 ∷ 0 ∷ [])
+    ∷ (1 ∷ 0 ∷ 0 ∷ 0 ∷ 0 ∷ 0 ∷ 0 ∷ 0 ∷ [])
+    ∷ (1 ∷ 0 ∷ 0 ∷ 0 ∷ 0 ∷ 0 ∷ 0 ∷ 0 ∷ [])
+    ∷ []
+
+-- the accumulator after its first k stimuli
+abbrev accumulated : ℕ → List ℕ → Run
+accumulated k values = record { records = accumulator; stimuli = take k accumulation; values = values }
+
+-- A fixed input; two registers that feed each other, of widths 8 and 4, so that the second narrows what it takes;
+-- whether the first is less than the second; the first less the fixed input, at width 4.
+abbrev exchange : List (List ℕ)
+exchange =
+    (0 ∷ 4 ∷ 0 ∷ 0 ∷ 0 ∷ 0 ∷ 0 ∷ 0 ∷ 0 ∷ 0 ∷ 0 ∷ 0 ∷ 9 ∷ 0 ∷ 0 ∷ 0 ∷ [])
+    ∷ (4 ∷ 8 ∷ 0 ∷ 0 ∷ 2 ∷ 0 ∷ 0 ∷ 0 ∷ 0 ∷ 0 ∷ 0 ∷ 0 ∷ 19 ∷ 0 ∷ 0 ∷ 0 ∷ [])
+    ∷ (4 ∷ 4 ∷ 0 ∷ 0 ∷ 1 ∷ 0 ∷ 0 ∷ 0 ∷ 0 ∷ 0 ∷ 0 ∷ 0 ∷ 5 ∷ 0 ∷ 0 ∷ 0 ∷ [])
+    ∷ (2 ∷ 1 ∷ 6 ∷ 0 ∷ 1 ∷ 0 ∷ 2 ∷ 0 ∷ 0 ∷ 0 ∷ 0 ∷ 0 ∷ 0 ∷ 0 ∷ 0 ∷ 0 ∷ [])
+    ∷ (2 ∷ 4 ∷ 1 ∷ 0 ∷ 1 ∷ 0 ∷ 0 ∷ 0 ∷ 0 ∷ 0 ∷ 0 ∷ 0 ∷ 0 ∷ 0 ∷ 0 ∷ 0 ∷ [])
+    ∷ []
+
+abbrev pub runs : List Run
+runs =
+    accumulated 0 (0 ∷ 0 ∷ 0 ∷ 0 ∷ 0 ∷ 0 ∷ 0 ∷ 0 ∷ 0 ∷ [])
+    ∷ accumulated 1 (0 ∷ 1 ∷ 0 ∷ 0 ∷ 0 ∷ 0 ∷ 0 ∷ 0 ∷ 0 ∷ [])
+    ∷ accumulated 2 (2 ∷ 1 ∷ 0 ∷ 0 ∷ 0 ∷ 2 ∷ 0 ∷ 2 ∷ 2 ∷ [])
+    ∷ accumulated 3 (2 ∷ 1 ∷ 0 ∷ 2 ∷ 0 ∷ 4 ∷ 0 ∷ 4 ∷ 4 ∷ [])
+    ∷ accumulated 4 (2 ∷ 1 ∷ 0 ∷ 4 ∷ 2 ∷ 6 ∷ 0 ∷ 6 ∷ 6 ∷ [])
+    ∷ record { records = exchange; stimuli = []; values = 9 ∷ 19 ∷ 5 ∷ 0 ∷ 10 ∷ [] }
+    ∷ record { records = exchange; stimuli = (1 ∷ 0 ∷ 0 ∷ 0 ∷ 0 ∷ 0 ∷ 0 ∷ 0 ∷ []) ∷ []; values = 9 ∷ 5 ∷ 3 ∷ 0 ∷ 12 ∷ [] }
+    ∷ []
+
+pub runs-hold : RunsHold runs
+unfolding flatten circuit checkRecords checkStimuli stimuli machine listBelow
+runs-hold =
+    ((refl, refl, refl), ((refl, refl, refl), ((refl, refl, refl), ((refl, refl, refl), ((refl, refl, refl), ((refl, refl, refl), ((refl, refl, refl), tt)))))))

@@ -1,0 +1,3 @@
+pub mod Order
+pub mod Claims
+pub mod Certificate

@@ -1,0 +1,5 @@
+pub mod Fact
+pub mod Rule
+pub mod Certificate
+pub mod TwoRuns
+pub mod Cases

@@ -1,0 +1,5 @@
+pub mod Tests
+pub mod Net
+pub mod Loop
+pub mod Machine
+pub mod Examples

@@ -1,0 +1,34 @@
+-- Document 01's bench machine, as a net of numbers: its state is one number a variable, and a tick is a round.
+-- Assumes nothing.
+use mathlib.Core.Bool.{Bool, true, false}
+use mathlib.Core.List.{List, [], _∷_}
+use Prim.Native.Nat.{ℕ}
+use lib.Dec.{eqb}
+use Rattle.net.specs.declared.Stimulus.{Stimulus}
+use Rattle.net.specs.declared.Stimulus.the-variants.{Poke, Tick}
+use Rattle.net.specs.Net.{Graph, settle, round}
+
+-- the state with x at variable i
+unfoldable pub put : (ℕ → ℕ) → ℕ → ℕ → ℕ → ℕ
+put s i x v = elim (eqb v i) [ true ↦ x | false ↦ s v ]
+
+module _ (g : Graph) (f : (ℕ → ℕ) → ℕ → ℕ) where
+  -- document 01's poke sets one input (ground 15 turns away every other variable), its tick moves all registers
+  -- together, and the wires follow
+  unfoldable pub act : Stimulus → (ℕ → ℕ) → ℕ → ℕ
+  unfolding settle round put
+  act (Poke i x) s = settle g f (put s i x)
+  act Tick s = round g f s
+
+  -- the state after a list of stimuli, each on the state that the one before left
+  unfoldable pub run : List Stimulus → (ℕ → ℕ) → ℕ → ℕ
+  unfolding act
+  run [] s = s
+  run (x ∷ xs) s = run xs (act x s)
+
+-- two lists of stimuli, equally long: at each place both tick, or both poke the same variable, with values that R
+-- relates there
+pub data Alike (R : ℕ → ℕ → ℕ → Type 0) : List Stimulus → List Stimulus → Type 0 where
+  none : Alike R [] []
+  ticks : {xs ys : List Stimulus} → Alike R xs ys → Alike R (Tick ∷ xs) (Tick ∷ ys)
+  pokes : {i x y : ℕ} {xs ys : List Stimulus} → R i x y → Alike R xs ys → Alike R (Poke i x ∷ xs) (Poke i y ∷ ys)

@@ -1,0 +1,81 @@
+//! Document 01, "Facts": the three facts and their order, join and narrow, the rule of each kind of
+//! record, and closed stores. A store gives each variable a fact, the fact of variable i at place i.
+
+use crate::{remainder, InputKind, Record};
+
+/// A fact of a variable: always n, open, or marked.
+#[derive(Debug, Clone, Copy, PartialEq, Eq)]
+pub enum Fact {
+    Always(u32),
+    Open,
+    Marked,
+}
+
+impl Fact {
+    /// The order: always n lies below open, open below marked, and two different numbers are not ordered.
+    pub fn at_or_below(self, other: Fact) -> bool {
+        match (self, other) {
+            (Fact::Always(n), Fact::Always(other)) => n == other,
+            (_, Fact::Always(_)) => false,
+            (fact, Fact::Open) => fact != Fact::Marked,
+            (_, Fact::Marked) => true,
+        }
+    }
+
+    /// The lowest fact at or above both. Only two different numbers are not ordered, and above them the
+    /// lowest is open.
+    pub fn join(self, other: Fact) -> Fact {
+        if self.at_or_below(other) {
+            other
+        } else if other.at_or_below(self) {
+            self
+        } else {
+            Fact::Open
+        }
+    }
+
+    /// The fact narrowed to width w: always n becomes always (n mod 2^w), the others stay.
+    pub fn narrow(self, w: u32) -> Fact {
+        match self {
+            Fact::Always(n) => Fact::Always(remainder(n, w)),
+            Fact::Open | Fact::Marked => self,
+        }
+    }
+}
+
+/// The rule: what the record of variable i gives from a store.
+pub fn rule(records: &[Record], store: &[Fact], i: usize) -> Fact {
+    match records[i] {
+        Record::Input { kind, .. } => match kind {
+            InputKind::Fixed(n) => Fact::Always(n),
+            InputKind::Free => Fact::Open,
+            InputKind::Secret => Fact::Marked,
+        },
+        Record::Constant { n, .. } => Fact::Always(n),
+        Record::Operator { width, operator, a, b } => match (store[a], store[b]) {
+            (Fact::Always(a), Fact::Always(b)) => Fact::Always(operator.result(a, b, width)),
+            (Fact::Marked, _) | (_, Fact::Marked) => Fact::Marked,
+            _ => Fact::Open,
+        },
+        Record::Multiplexer { width, a, b, c } => {
+            multiplexer(store[a], store[b].narrow(width), store[c].narrow(width))
+        }
+        Record::Register { width, a, power_on } => store[a].narrow(width).join(Fact::Always(power_on)),
+    }
+}
+
+/// The multiplexer's rule on the control's fact and the facts of the arms B and C, already narrowed.
+fn multiplexer(control: Fact, b: Fact, c: Fact) -> Fact {
+    match (control, b.join(c)) {
+        (Fact::Always(0), _) => c,
+        (Fact::Always(_), _) => b,
+        (Fact::Open, join) => join,
+        (Fact::Marked, Fact::Always(n)) => Fact::Always(n),
+        (Fact::Marked, _) => Fact::Marked,
+    }
+}
+
+/// Whether a store is closed: at every variable its fact is at or above what the rule gives from it.
+pub fn closed(records: &[Record], store: &[Fact]) -> bool {
+    (0..records.len()).all(|i| rule(records, store, i).at_or_below(store[i]))
+}

@@ -1,0 +1,30 @@
+//! The reference model of document 01, written from its definitions and not for speed.
+//!
+//! In the document's order: `record` (records and their reading), `wires` (uses, loops, settling), `fact`
+//! (facts, rules, closed stores), `certify` (rounds, the certificate and its call), `machine` (power-on,
+//! poke, tick), `bench` (stimuli and the bench call) and `table` (the grounds that both calls share).
+
+mod bench;
+mod certify;
+mod fact;
+mod machine;
+mod record;
+mod table;
+mod wires;
+
+pub use bench::{bench, run, Stimulus};
+pub use certify::{before_any_round, certify, round, rounds};
+pub use fact::{closed, rule, Fact};
+pub use machine::{poke, power_on, tick, value};
+pub use record::{fits, remainder, InputKind, Operator, Record};
+pub use table::{is_loop, read_records};
+pub use wires::{find_loop, settle, together};
+
+/// A refusal: the number of the ground on which work is turned down, and its place.
+#[derive(Debug, Clone, Copy, PartialEq, Eq)]
+pub struct Refusal {
+    /// The ground, numbered as in document 01.
+    pub ground: u32,
+    /// The record for 5 to 10, the loop's length for 11, the stimulus for 14 to 17, else 0.
+    pub place: usize,
+}

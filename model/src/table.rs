@@ -1,0 +1,74 @@
+//! Document 01, "Grounds for turning work down": grounds 1 to 11 in their order, which both calls share,
+//! with what each of them leaves in the scratch.
+
+use crate::wires::row_is_loop;
+use crate::{find_loop, Record, Refusal};
+
+/// The most bytes that a table can have.
+const LONGEST_TABLE: usize = 65_536;
+
+/// How many 16-bit numbers of scratch ground 4 asks for a record.
+const SCRATCH_A_RECORD: usize = 4;
+
+/// The 16 bytes of each record, or the first of grounds 1 and 2 that holds.
+fn split_records(table: &[u8]) -> Result<&[[u8; 16]], Refusal> {
+    let (records, rest) = table.as_chunks::<16>();
+    if table.len() > LONGEST_TABLE {
+        return Err(Refusal { ground: 1, place: 0 });
+    }
+    if !rest.is_empty() {
+        return Err(Refusal { ground: 2, place: 0 });
+    }
+    Ok(records)
+}
+
+/// The records read one after another, or the first of grounds 5 to 10 at the first record that meets one.
+fn read_each(records: &[[u8; 16]]) -> Result<Vec<Record>, Refusal> {
+    let read =
+        |(place, bytes)| Record::read(bytes, records.len()).map_err(|ground| Refusal { ground, place });
+    records.iter().enumerate().map(read).collect()
+}
+
+/// The records of a table, or the first of grounds 1, 2 and 5 to 10 that holds: those on the table alone
+/// and short of loops.
+pub fn read_records(table: &[u8]) -> Result<Vec<Record>, Refusal> {
+    read_each(split_records(table)?)
+}
+
+/// The records of a table that meets none of grounds 1 to 11, with the output's length and the length that
+/// it must have a record; or the first ground that holds.
+///
+/// Once grounds 1 to 10 are passed the scratch's part is the loop and then 0, or all 0 where there is none.
+pub(crate) fn accept(
+    table: &[u8],
+    output: usize,
+    output_a_record: usize,
+    scratch: &mut [u16],
+) -> Result<Vec<Record>, Refusal> {
+    let bytes = split_records(table)?;
+    if output < output_a_record * bytes.len() {
+        return Err(Refusal { ground: 3, place: 0 });
+    }
+    if scratch.len() < SCRATCH_A_RECORD * bytes.len() {
+        return Err(Refusal { ground: 4, place: 0 });
+    }
+    let records = read_each(bytes)?;
+    let part = &mut scratch[..SCRATCH_A_RECORD * records.len()];
+    part.fill(0);
+    match find_loop(&records) {
+        None => Ok(records),
+        Some(row) => {
+            for (number, &wire) in part.iter_mut().zip(&row) {
+                *number = wire as u16;
+            }
+            Err(Refusal { ground: 11, place: row.len() })
+        }
+    }
+}
+
+/// Whether a row of variables is a loop of the table: a row of distinct wires, not empty, each using the
+/// next and the last using the first. A table whose records can't be read has no wires.
+pub fn is_loop(table: &[u8], row: &[u16]) -> bool {
+    let row: Vec<usize> = row.iter().map(|&variable| usize::from(variable)).collect();
+    read_records(table).is_ok_and(|records| row_is_loop(&records, &row))
+}

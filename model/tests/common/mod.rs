@@ -1,0 +1,224 @@
+//! What the tests share: records and stimuli from their fields, a seeded generator of random numbers, and
+//! the two calls made on buffers whose contents are checked afterwards by document 01's clauses.
+//! Random tables and lists come from `tables`.
+
+#![allow(dead_code)] // each test file uses a part
+
+pub mod tables;
+
+use model::{bench, certify, Fact, Operator, Refusal};
+
+/// The 16 bytes of a record.
+pub type RecordBytes = [u8; 16];
+
+/// The 16 bytes of a record from its fields, the bytes that must be 0 left 0.
+pub fn record(kind: u8, width: u8, choice: u8, variables: [u16; 3], n: u32) -> RecordBytes {
+    let mut bytes = [0; 16];
+    bytes[..3].copy_from_slice(&[kind, width, choice]);
+    for (place, variable) in [4, 6, 8].into_iter().zip(variables) {
+        bytes[place..place + 2].copy_from_slice(&variable.to_le_bytes());
+    }
+    bytes[12..].copy_from_slice(&n.to_le_bytes());
+    bytes
+}
+
+/// A fixed input of width w with value n.
+pub fn fixed(w: u8, n: u32) -> RecordBytes {
+    record(0, w, 0, [0; 3], n)
+}
+
+/// A free input of width w.
+pub fn free(w: u8) -> RecordBytes {
+    record(0, w, 1, [0; 3], 0)
+}
+
+/// A secret input of width w.
+pub fn secret(w: u8) -> RecordBytes {
+    record(0, w, 2, [0; 3], 0)
+}
+
+/// A constant n of width w.
+pub fn constant(w: u8, n: u32) -> RecordBytes {
+    record(1, w, 0, [0; 3], n)
+}
+
+/// An operator of width w on A and B.
+pub fn operator(operator: Operator, w: u8, a: u16, b: u16) -> RecordBytes {
+    let code = Operator::BY_CODE.iter().position(|&other| other == operator);
+    record(2, w, code.unwrap() as u8, [a, b, 0], 0)
+}
+
+/// A multiplexer of width w with control A and arms B and C.
+pub fn multiplexer(w: u8, a: u16, b: u16, c: u16) -> RecordBytes {
+    record(3, w, 0, [a, b, c], 0)
+}
+
+/// A register of width w with a power-on value, fed by A.
+pub fn register(w: u8, power_on: u32, a: u16) -> RecordBytes {
+    record(4, w, 0, [a, 0, 0], power_on)
+}
+
+/// The 8 bytes of a poke.
+pub fn poke_bytes(variable: u16, n: u32) -> [u8; 8] {
+    let mut bytes = [0; 8];
+    bytes[2..4].copy_from_slice(&variable.to_le_bytes());
+    bytes[4..].copy_from_slice(&n.to_le_bytes());
+    bytes
+}
+
+/// The 8 bytes of a tick.
+pub const TICK: [u8; 8] = [1, 0, 0, 0, 0, 0, 0, 0];
+
+/// Random numbers from a seed, by splitmix64.
+pub struct Random(u64);
+
+impl Random {
+    /// The generator of the named test, from the environment's `MODEL_SEED` or else the given seed. It
+    /// prints the seed, so that a failing test names it.
+    pub fn of_test(name: &str, seed: u64) -> Random {
+        let seed = from_environment("MODEL_SEED").unwrap_or(seed);
+        println!("{name}: MODEL_SEED={seed}");
+        Random(seed)
+    }
+
+    /// The next 64 random bits.
+    pub fn next(&mut self) -> u64 {
+        self.0 = self.0.wrapping_add(0x9e37_79b9_7f4a_7c15);
+        let once = (self.0 ^ (self.0 >> 30)).wrapping_mul(0xbf58_476d_1ce4_e5b9);
+        let twice = (once ^ (once >> 27)).wrapping_mul(0x94d0_49bb_1331_11eb);
+        twice ^ (twice >> 31)
+    }
+
+    /// A random number below the limit.
+    pub fn below(&mut self, limit: usize) -> usize {
+        (self.next() % limit as u64) as usize
+    }
+
+    /// True in so many of a hundred.
+    pub fn percent(&mut self, share: usize) -> bool {
+        self.below(100) < share
+    }
+
+    /// One of the choices.
+    pub fn pick<T: Copy>(&mut self, choices: &[T]) -> T {
+        choices[self.below(choices.len())]
+    }
+
+    /// The numbers below n in a random order.
+    pub fn order(&mut self, n: usize) -> Vec<usize> {
+        let mut order: Vec<usize> = (0..n).collect();
+        for i in (1..n).rev() {
+            order.swap(i, self.below(i + 1));
+        }
+        order
+    }
+}
+
+/// How many random tables a test tries: the environment's `MODEL_CASES` or else the given number.
+pub fn cases(number: usize) -> usize {
+    from_environment("MODEL_CASES").map_or(number, |cases| cases as usize)
+}
+
+/// The number that a variable of the environment holds, if it is set.
+fn from_environment(name: &str) -> Option<u64> {
+    let text = std::env::var(name).ok()?;
+    Some(text.parse().unwrap_or_else(|_| panic!("{name} is no number")))
+}
+
+/// A refusal, with the loop that the scratch shows for ground 11 and an empty row for the others.
+#[derive(Debug, Clone, PartialEq, Eq)]
+pub struct Refused {
+    pub ground: u32,
+    pub place: usize,
+    pub row: Vec<u16>,
+}
+
+/// The certifying call on buffers of these lengths: the count and the facts, or the refusal. What document
+/// 01 says of the buffers is checked.
+pub fn certify_on(table: &[u8], certificate: usize, scratch: usize) -> Result<(u32, Vec<Fact>), Refused> {
+    let before: Vec<u8> = noise(certificate).map(|number| number as u8).collect();
+    let scratch_before: Vec<u16> = noise(scratch).collect();
+    let (mut after, mut scratch_after) = (before.clone(), scratch_before.clone());
+    let answer = certify(table, &mut after, &mut scratch_after);
+    check_output(table, answer, 8, &before, &after);
+    let row = check_scratch(table, answer, &scratch_before, &scratch_after);
+    let count = answer.map_err(|refusal| refused(refusal, row))?;
+    after.truncate(table.len() / 16 * 8);
+    Ok((count, after.chunks(8).map(fact_of).collect()))
+}
+
+/// The certifying call on buffers as long as asked and so many longer.
+pub fn certify_longer(table: &[u8], longer: usize) -> Result<(u32, Vec<Fact>), Refused> {
+    let n = table.len() / 16;
+    certify_on(table, n * 8 + longer, n * 4 + longer)
+}
+
+/// The bench call on buffers of these lengths: the values, or the refusal. What document 01 says of the
+/// buffers is checked.
+pub fn bench_on(table: &[u8], stimuli: &[u8], values: usize, scratch: usize) -> Result<Vec<u32>, Refused> {
+    let before: Vec<u32> = noise(values).map(|number| u32::from(number) * 65_537).collect();
+    let scratch_before: Vec<u16> = noise(scratch).collect();
+    let (mut after, mut scratch_after) = (before.clone(), scratch_before.clone());
+    let answer = bench(table, stimuli, &mut after, &mut scratch_after);
+    check_output(table, answer, 1, &before, &after);
+    let row = check_scratch(table, answer, &scratch_before, &scratch_after);
+    answer.map_err(|refusal| refused(refusal, row))?;
+    after.truncate(table.len() / 16);
+    Ok(after)
+}
+
+/// The bench call on buffers as long as asked and so many longer.
+pub fn bench_longer(table: &[u8], stimuli: &[u8], longer: usize) -> Result<Vec<u32>, Refused> {
+    let n = table.len() / 16;
+    bench_on(table, stimuli, n + longer, n * 4 + longer)
+}
+
+fn refused(Refusal { ground, place }: Refusal, row: Vec<u16>) -> Refused {
+    Refused { ground, place, row }
+}
+
+/// What a buffer holds before a call: numbers with no byte 0.
+fn noise(length: usize) -> impl Iterator<Item = u16> {
+    (0..length).map(|i| (i as u16).wrapping_mul(40_503) | 0x0101)
+}
+
+/// A refusal changes no output; an accepted call changes nothing past so much a record.
+fn check_output<T, V: PartialEq + std::fmt::Debug>(
+    table: &[u8],
+    answer: Result<T, Refusal>,
+    a_record: usize,
+    before: &[V],
+    after: &[V],
+) {
+    let written = answer.map_or(0, |_| table.len() / 16 * a_record);
+    assert_eq!(before[written..], after[written..], "output");
+}
+
+/// The scratch is unchanged for 1 to 10. After that its part is the row of ground 11 and then 0, and what
+/// is past the part is unchanged. Gives the row, empty but for 11.
+fn check_scratch<T>(table: &[u8], answer: Result<T, Refusal>, before: &[u16], after: &[u16]) -> Vec<u16> {
+    let length = match answer {
+        Err(Refusal { ground: 1..=10, .. }) => {
+            assert_eq!(before, after, "scratch");
+            return Vec::new();
+        }
+        Err(Refusal { ground: 11, place }) => place,
+        _ => 0,
+    };
+    let (part, past) = after.split_at(table.len() / 16 * 4);
+    assert_eq!(before[part.len()..], *past, "past the scratch's part");
+    let (row, rest) = part.split_at(length);
+    assert!(rest.iter().all(|&number| number == 0), "the rest of the scratch's part");
+    row.to_vec()
+}
+
+/// The fact in the 8 bytes of a variable.
+fn fact_of(bytes: &[u8]) -> Fact {
+    let n = u32::from_le_bytes(bytes[4..8].try_into().unwrap());
+    match (bytes[0], bytes[1], bytes[2], bytes[3], n) {
+        (1, 0, 0, 0, n) => Fact::Always(n),
+        (2, 0, 0, 0, 0) => Fact::Open,
+        (3, 0, 0, 0, 0) => Fact::Marked,
+        _ => panic!("no fact has the bytes {bytes:?}"),
+    }
+}

@@ -1,0 +1,191 @@
+//! The order of facts, the operators and the rules of multiplexers and registers, each held against the
+//! words of document 01 by example or over all of a small range.
+
+mod common;
+
+use common::{bench_longer, fixed, free, multiplexer, operator, poke_bytes, register, TICK};
+use model::Fact::{self, Always, Marked, Open};
+use model::{closed, fits, read_records, remainder, rule, Operator, Operator::*};
+
+/// Facts enough to meet every case of the order.
+const FACTS: [Fact; 5] = [Always(0), Always(1), Always(6), Open, Marked];
+
+#[test]
+fn the_order_of_facts_is_a_partial_order() {
+    for a in FACTS {
+        assert!(a.at_or_below(a));
+        for b in FACTS {
+            assert!(a == b || !(a.at_or_below(b) && b.at_or_below(a)));
+            for c in FACTS {
+                assert!(a.at_or_below(c) || !(a.at_or_below(b) && b.at_or_below(c)));
+            }
+        }
+    }
+    assert!(Always(6).at_or_below(Open) && Open.at_or_below(Marked));
+    assert!(!Open.at_or_below(Always(6)) && !Marked.at_or_below(Open));
+    assert!(!Always(0).at_or_below(Always(6)));
+}
+
+#[test]
+fn the_join_is_the_lowest_fact_at_or_above_both() {
+    for a in FACTS {
+        for b in FACTS {
+            let join = a.join(b);
+            assert!(a.at_or_below(join) && b.at_or_below(join));
+            let above_both = |c: &Fact| a.at_or_below(*c) && b.at_or_below(*c);
+            assert!(FACTS.into_iter().filter(above_both).all(|c| join.at_or_below(c)));
+        }
+    }
+    assert_eq!(Always(0).join(Always(5)), Open);
+}
+
+#[test]
+fn narrowing() {
+    assert_eq!(Always(13).narrow(3), Always(5));
+    assert_eq!(Always(u32::MAX).narrow(32), Always(u32::MAX));
+    assert_eq!(Always(u32::MAX).narrow(31), Always(u32::MAX >> 1));
+    assert_eq!((Open.narrow(1), Marked.narrow(1)), (Open, Marked));
+    for w in 1..=32 {
+        assert_eq!(remainder(u32::MAX, w), u32::MAX >> (32 - w));
+        assert!(fits(u32::MAX >> (32 - w), w));
+        assert!(w == 32 || !fits(1 << w, w));
+    }
+}
+
+#[test]
+fn operators_by_example() {
+    let top = u32::MAX;
+    let examples = [
+        (Add, top, 1, 32, 0),
+        (Add, 200, 100, 8, 44),
+        (Add, 200, 100, 9, 300),
+        (Subtract, 2, 5, 4, 13),
+        (Subtract, 0, 1, 32, top),
+        (Subtract, 0, top, 32, 1),
+        (And, 12, 10, 8, 8),
+        (And, 12, 10, 3, 0),
+        (Or, 12, 10, 8, 14),
+        (Xor, 12, 10, 8, 6),
+        (Xor, 12, 10, 2, 2),
+        (Equal, 257, 1, 1, 0),
+        (Equal, 257, 257, 1, 1),
+        (Less, 1, 256, 8, 1),
+        (Less, 256, 1, 1, 0),
+        (Less, 7, 7, 32, 0),
+        (Less, top - 1, top, 1, 1),
+        (ShiftLeft, 1, 31, 32, 1 << 31),
+        (ShiftLeft, 1, 32, 32, 0),
+        (ShiftLeft, top, top, 32, 0),
+        (ShiftLeft, 3, 7, 8, 128),
+        (ShiftLeft, 5, 0, 2, 1),
+        (ShiftRight, top, 31, 32, 1),
+        (ShiftRight, top, 32, 32, 0),
+        (ShiftRight, top, 33, 32, 0),
+        (ShiftRight, 255, 3, 8, 31),
+        (ShiftRight, 255, 3, 4, 15),
+        (ShiftRight, 255, 0, 4, 15),
+    ];
+    for (operator, a, b, w, result) in examples {
+        assert_eq!(operator.result(a, b, w), result, "{operator:?} {a} {b} at width {w}");
+    }
+}
+
+#[test]
+fn operators_by_repeated_steps() {
+    for w in 1..=6 {
+        for (a, b) in (0..64).flat_map(|a| (0..64).map(move |b| (a, b))) {
+            let power = 1 << w;
+            let times = (0..b.min(40)).fold(u64::from(a), |n, _| n * 2);
+            let divided = (0..b).fold(a, |n, _| n / 2);
+            assert_eq!((Subtract.result(a, b, w) + b) % power, a % power);
+            assert_eq!(Add.result(a, b, w), (a + b) % power);
+            let times = if b < 32 { (times % u64::from(power)) as u32 } else { 0 };
+            assert_eq!(ShiftLeft.result(a, b, w), times);
+            assert_eq!(ShiftRight.result(a, b, w), divided % power);
+        }
+    }
+}
+
+#[test]
+fn the_operator_rule() {
+    let records = [free(8), free(8), operator(Operator::And, 8, 0, 1)];
+    let records = read_records(records.as_flattened()).unwrap();
+    for (a, b, fact) in [
+        (Always(6), Always(3), Always(2)),
+        (Always(0), Open, Open),
+        (Open, Always(0), Open),
+        (Open, Open, Open),
+        (Always(0), Marked, Marked),
+        (Marked, Always(0), Marked),
+        (Marked, Open, Marked),
+        (Open, Marked, Marked),
+        (Marked, Marked, Marked),
+    ] {
+        assert_eq!(rule(&records, &[a, b, Open], 2), fact, "{a:?} {b:?}");
+    }
+}
+
+#[test]
+fn the_multiplexer_rule() {
+    let records = [free(8), free(8), free(8), multiplexer(2, 0, 1, 2)];
+    let records = read_records(records.as_flattened()).unwrap();
+    for (control, b, c, fact) in [
+        (Always(0), Marked, Always(5), Always(1)),
+        (Always(4), Always(6), Marked, Always(2)),
+        (Always(4), Marked, Always(6), Marked),
+        (Always(1), Open, Marked, Open),
+        (Open, Always(1), Always(5), Always(1)),
+        (Open, Always(1), Always(2), Open),
+        (Open, Always(1), Marked, Marked),
+        (Open, Open, Always(1), Open),
+        (Marked, Always(1), Always(5), Always(1)),
+        (Marked, Always(1), Always(2), Marked),
+        (Marked, Open, Open, Marked),
+        (Marked, Always(1), Open, Marked),
+        (Marked, Marked, Marked, Marked),
+    ] {
+        let given = rule(&records, &[control, b, c, Open], 3);
+        assert_eq!(given, fact, "{control:?} {b:?} {c:?}");
+    }
+}
+
+#[test]
+fn the_register_rule() {
+    let records = [free(8), register(2, 1, 0)];
+    let records = read_records(records.as_flattened()).unwrap();
+    for (a, fact) in [(Always(5), Always(1)), (Always(6), Open), (Open, Open), (Marked, Marked)] {
+        assert_eq!(rule(&records, &[a, Open], 1), fact, "{a:?}");
+    }
+}
+
+#[test]
+fn closed_stores() {
+    let records = [free(8), register(2, 1, 0)];
+    let records = read_records(records.as_flattened()).unwrap();
+    assert!(closed(&records, &[Open, Open]));
+    assert!(closed(&records, &[Open, Marked]));
+    assert!(closed(&records, &[Marked, Marked]));
+    assert!(!closed(&records, &[Always(0), Open]));
+    assert!(!closed(&records, &[Marked, Open]));
+    assert!(!closed(&records, &[Open, Always(1)]));
+}
+
+#[test]
+fn a_tick_moves_all_registers_together() {
+    let table = [register(8, 1, 1), register(8, 2, 0), register(1, 0, 1)];
+    let after = |ticks| bench_longer(table.as_flattened(), &TICK.repeat(ticks), 0).unwrap();
+    assert_eq!(after(0), [1, 2, 0]);
+    assert_eq!(after(1), [2, 1, 0]);
+    assert_eq!(after(2), [1, 2, 1]);
+}
+
+#[test]
+fn pokes_move_wires_and_no_register() {
+    let table = [free(8), fixed(4, 9), multiplexer(2, 0, 1, 3), register(8, 6, 0), operator(Add, 8, 2, 3)];
+    let after = |stimuli: &[[u8; 8]]| bench_longer(table.as_flattened(), stimuli.as_flattened(), 0);
+    assert_eq!(after(&[]), Ok(vec![0, 9, 2, 6, 8]));
+    assert_eq!(after(&[poke_bytes(0, 200)]), Ok(vec![200, 9, 1, 6, 7]));
+    assert_eq!(after(&[poke_bytes(0, 200), TICK]), Ok(vec![200, 9, 1, 200, 201]));
+    let again = [poke_bytes(0, 200), TICK, poke_bytes(0, 0), poke_bytes(1, 9)];
+    assert_eq!(after(&again), Ok(vec![0, 9, 0, 200, 200]));
+}
