@@ -75,10 +75,20 @@ runs =
     ∷ accumulated 3 (2 ∷ 1 ∷ 0 ∷ 2 ∷ 0 ∷ 4 ∷ 0 ∷ 4 ∷ 4 ∷ [])
     ∷ accumulated 4 (2 ∷ 1 ∷ 0 ∷ 4 ∷ 2 ∷ 6 ∷ 0 ∷ 6 ∷ 6 ∷ [])
     ∷ record { records = exchange; stimuli = []; values = 9 ∷ 19 ∷ 5 ∷ 0 ∷ 10 ∷ [] }
-    ∷ record { records = exchange; stimuli = (1 ∷ 0 ∷ 0 ∷ 0 ∷ 0 ∷ 0 ∷ 0 ∷ 0 ∷ []) ∷ []; values = 9 ∷ 5 ∷ 3 ∷ 0 ∷ 12 ∷ [] }
+    ∷ record {
+      records = exchange;
+      stimuli =
+          (1 ∷ 0 ∷ 0 ∷ 0 ∷ 0 ∷ 0 ∷ 0 ∷ 0 ∷ []) ∷ [];
+      values = 9 ∷ 5 ∷ 3 ∷ 0 ∷ 12 ∷ [];
+    }
     ∷ []
 
 pub runs-hold : RunsHold runs
 unfolding flatten circuit checkRecords checkStimuli stimuli machine listBelow
-runs-hold =
-    ((refl, refl, refl), ((refl, refl, refl), ((refl, refl, refl), ((refl, refl, refl), ((refl, refl, refl), ((refl, refl, refl), ((refl, refl, refl), tt)))))))
+runs-hold = (
+  (refl, refl, refl),
+  (
+    (refl, refl, refl),
+    ((refl, refl, refl), ((refl, refl, refl), ((refl, refl, refl), ((refl, refl, refl), ((refl, refl, refl), tt))))),
+  ),
+)

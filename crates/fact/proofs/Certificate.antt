@@ -192,7 +192,8 @@ module _ (c : Circuit) (inside : Inside c) (noLoop : NoLoop c) where
   pub rounds-few : rounds c ≤ 2 * registers c
   unfolding rounds initialStore
   rounds-few =
-      subst (λ (k : ℕ). rounds c ≤ k) (twice-registers c) (count-few ranked (monotone c) (heights c) (suc (2 * registers c)))
+      subst (λ (k : ℕ). rounds c ≤ k) (twice-registers c)
+      (count-few ranked (monotone c) (heights c) (suc (2 * registers c)))
 
   -- ---- demand 3
 
@@ -226,6 +227,8 @@ module _ (c : Circuit) (inside : Inside c) (noLoop : NoLoop c) where
   two-runs-claimed xs ys a b h =
       two-runs ranked (sound c) (certificate c) certificate-fixed
       (λ v. initial (recordOf c v)) (λ v. initial (recordOf c v))
-      (λ v below e. claims-up (⊑-of-eq (sym (input-fact v below e))) (initial-claims (recordOf c v) (λ d. input-wire (sym e ∙ d))))
-      (λ v below e. claims-up (register-fact v below e) (initial-claims (recordOf c v) (λ d. register-wire (sym e ∙ d))))
+      (λ v below e. claims-up (⊑-of-eq (sym (input-fact v below e)))
+      (initial-claims (recordOf c v) (λ d. input-wire (sym e ∙ d))))
+      (λ v below e. claims-up (register-fact v below e)
+      (initial-claims (recordOf c v) (λ d. register-wire (sym e ∙ d))))
       (pokes-claimed a h)

@@ -82,7 +82,8 @@ cond-mod false b c k = refl
 pub claims-multiplexer : (w : ℕ) {x y z : Fact} {a a′ b b′ c c′ : ℕ} → Claims x a a′ → Claims y b b′ → Claims z c c′
     → Claims (multiplexerRule w x y z) (multiplex w a b c) (multiplex w a′ b′ c′)
 claims-multiplexer w {a} {a′} {b} {b′} {c} {c′} h k l =
-    rw (cond-mod (eqb a 0) b c (2 ^ w), cond-mod (eqb a′ 0) b′ c′ (2 ^ w)) (claims-choose h (claims-narrow w k) (claims-narrow w l))
+    rw (cond-mod (eqb a 0) b c (2 ^ w), cond-mod (eqb a′ 0) b′ c′ (2 ^ w))
+    (claims-choose h (claims-narrow w k) (claims-narrow w l))
 
 pub claims-register : (w n : ℕ) {x : Fact} {a a′ : ℕ} → Claims x a a′
     → Claims (registerRule w n x) (a % 2 ^ w) (a′ % 2 ^ w)

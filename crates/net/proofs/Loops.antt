@@ -66,9 +66,11 @@ distinct-getD (x ∷ xs) d zero zero h k e = refl
 distinct-getD (x ∷ xs) d zero (suc j) h k e =
     not-both (member x xs) (rw e (member-getD xs j (le-of-suc-le-suc k))) (and-left (not (member x xs)) (distinct xs) d)
 distinct-getD (x ∷ xs) d (suc i) zero h k e =
-    not-both (member x xs) (rw (← e) (member-getD xs i (le-of-suc-le-suc h))) (and-left (not (member x xs)) (distinct xs) d)
+    not-both (member x xs) (rw (← e) (member-getD xs i (le-of-suc-le-suc h)))
+    (and-left (not (member x xs)) (distinct xs) d)
 distinct-getD (x ∷ xs) d (suc i) (suc j) h k e =
-    ap suc (distinct-getD xs (and-right (not (member x xs)) (distinct xs) d) i j (le-of-suc-le-suc h) (le-of-suc-le-suc k) e)
+    ap suc (distinct-getD xs (and-right (not (member x xs)) (distinct xs) d) i j (le-of-suc-le-suc h)
+    (le-of-suc-le-suc k) e)
 
 -- what stands before x
 before : ℕ → List ℕ → List ℕ
@@ -84,7 +86,8 @@ member-before z x (y ∷ ys) m = go (eqb x y) m (member-before z x ys)
         → T (eqb z y || member z ys)
     go true m ih = absurd m
     go false m ih =
-        or-cases (eqb z y) (member z (before x ys)) m (or-left (eqb z y) (member z ys)) (λ k. or-right (eqb z y) (member z ys) (ih k))
+        or-cases (eqb z y) (member z (before x ys)) m (or-left (eqb z y) (member z ys))
+        (λ k. or-right (eqb z y) (member z ys) (ih k))
 
 not-before : (x : ℕ) (l : List ℕ) → T (not (member x (before x l)))
 unfolding before member
@@ -98,7 +101,8 @@ distinct-before x [] d = tt
 distinct-before x (y ∷ ys) d =
     cond-case (λ (l : List ℕ). T (distinct l)) (eqb x y) (λ e. tt)
     (λ e. and-both (not (member y (before x ys))) (distinct (before x ys))
-    (by-test (member y (before x ys)) (λ m. not-both (member y ys) (member-before y x ys m) (and-left (not (member y ys)) (distinct ys) d)) (λ q. q))
+    (by-test (member y (before x ys))
+    (λ m. not-both (member y ys) (member-before y x ys m) (and-left (not (member y ys)) (distinct ys) d)) (λ q. q))
     (distinct-before x ys (and-right (not (member y ys)) (distinct ys) d)))
 
 -- how often v stands in a list
@@ -140,12 +144,19 @@ length-occurrences (x ∷ xs) n h =
 
     here : 1 ≤ sumBelow (λ v. cond (eqb v x) 1 0) n
     here =
-        le-trans (le-of-eq one) (sum-at (λ v. cond (eqb v x) 1 0) n x (h x (or-left (eqb x x) (member x xs) (eqb-refl x))))
+        le-trans (le-of-eq one)
+        (sum-at (λ v. cond (eqb v x) 1 0) n x (h x (or-left (eqb x x) (member x xs) (eqb-refl x))))
 
 -- a row of distinct numbers below n has at most n of them
 distinct-few : (l : List ℕ) (n : ℕ) → T (distinct l) → ((v : ℕ) → T (member v l) → v < n) → length l ≤ n
 distinct-few l n d h =
-    omega (arith, length-occurrences l n h, sum-mono (λ v. occurrences v l) (λ v. 1) n (λ v k. occurrences-once v l d), sum-one n)
+    omega (
+      arith,
+      length-occurrences l n h,
+      sum-mono (λ v. occurrences v l) (λ v. 1) n
+          (λ v k. occurrences-once v l d),
+      sum-one n,
+    )
 
 -- ---- layers
 
@@ -175,7 +186,8 @@ module _ (g : Graph) where
   -- what is outside a layer is a wire
   outside : (k v : ℕ) → T (not (layer k v)) → g .role v ≡ wire
   outside k v q =
-      by-role (g .role v) (λ e. absurd (rw (layer-input v k e) at q)) (λ e. e) (λ e. absurd (rw (layer-register v k e) at q))
+      by-role (g .role v) (λ e. absurd (rw (layer-input v k e) at q)) (λ e. e)
+      (λ e. absurd (rw (layer-register v k e) at q))
 
 module _ (g : Graph) (inside : (v u : ℕ) → v < g .size → Uses g v u → u < g .size) where
   -- ---- layers give a rank
@@ -204,7 +216,11 @@ module _ (g : Graph) (inside : (v u : ℕ) → v < g .size → Uses g v u → u 
           rank = λ v. pred (first-layer v);
           small = λ v h e.
               let (j, d, below) = uses-below v h e in
-              omega (arith, first-least (λ k. layer g k v) (g .size) (g .size) (all-at (layer g (g .size)) (g .size) t v h));
+              omega (
+                arith,
+                first-least (λ k. layer g k v) (g .size) (g .size)
+                    (all-at (layer g (g .size)) (g .size) t v h),
+              );
           falls = λ v u h e e′ m.
               let (j, d, below) = uses-below v h e in
               let (i, d′, below′) = uses-below u (inside v u h m) e′ in
@@ -254,7 +270,12 @@ module _ (g : Graph) (inside : (v u : ℕ) → v < g .size → Uses g v u → u 
       (λ e. or-cases (eqb x y) false m (λ t. true-false (sym (of-T _ t) ∙ e)) (λ t. absurd t))
   path-back x w y (z ∷ zs) hw s c m =
       cond-case (λ (l : List ℕ). Path-to x w l) (eqb x y) (λ e. (hw, rw (eqb→eq x y (T-of _ e)) s))
-      (λ e. (hw, s, path-back x y z zs (c .0) (c .1) (c .2) (or-cases (eqb x y) (member x (z ∷ zs)) m (λ t. true-false (sym (of-T _ t) ∙ e)) (λ t. t))))
+      (λ e. (
+        hw,
+        s,
+        path-back x y z zs (c .0) (c .1) (c .2)
+            (or-cases (eqb x y) (member x (z ∷ zs)) m (λ t. true-false (sym (of-T _ t) ∙ e)) (λ t. t)),
+      ))
 
   -- ---- from a row that leads back to its first, to document 01's loop
 
@@ -298,7 +319,8 @@ module _ (g : Graph) (inside : (v u : ℕ) → v < g .size → Uses g v u → u 
           (λ m. inr (
             x ∷ before x (y ∷ ys),
             loop-of x (before x (y ∷ ys))
-                (and-both (not (member x (before x (y ∷ ys)))) (distinct (before x (y ∷ ys))) (not-before x (y ∷ ys)) (distinct-before x (y ∷ ys) d))
+                (and-both (not (member x (before x (y ∷ ys)))) (distinct (before x (y ∷ ys)))
+                (not-before x (y ∷ ys)) (distinct-before x (y ∷ ys) d))
                 (path-back x x y ys (c .0) (c .1) (c .2) m),
           ))
           (λ q. inl (and-both (not (member x (y ∷ ys))) (distinct (y ∷ ys)) q d))

@@ -17,7 +17,8 @@ use Rattle.net.proofs.Settle.{by-role, by-rank, Ranked, Local, step-inp
 
 -- What is asked of an order and a rule. `first` gives what inputs and registers hold before any round. A wire's rule
 -- depends on what it uses; a register's may depend on its own value too.
-pub record Monotone {A : Type 0} (g : Graph) (le : A → A → Type 0) (f : (ℕ → A) → ℕ → A) (first : ℕ → A) : Type 0 where
+pub record Monotone {A : Type 0} (g : Graph) (le : A → A → Type 0) (f : (ℕ → A) → ℕ → A)
+    (first : ℕ → A) : Type 0 where
   pub reflexive : (x : A) → le x x
   pub transitive : (x y z : A) → le x y → le y z → le x z
   pub local : Local g f
@@ -29,7 +30,8 @@ pub record Monotone {A : Type 0} (g : Graph) (le : A → A → Type 0) (f : (ℕ
   pub power-on : (s : ℕ → A) (v : ℕ) → v < g .size → g .role v ≡ register → le (first v) (f s v)
 
 -- What is asked of a test of equality, and of heights that bound how often a register can rise.
-pub record Heights {A : Type 0} (g : Graph) (le : A → A → Type 0) (f : (ℕ → A) → ℕ → A) (same : A → A → Bool) (most : ℕ → ℕ) : Type 0 where
+pub record Heights {A : Type 0} (g : Graph) (le : A → A → Type 0) (f : (ℕ → A) → ℕ → A) (same : A → A → Bool)
+    (most : ℕ → ℕ) : Type 0 where
   pub same-eq : (x y : A) → same x y ≡ true → x ≡ y
   pub same-refl : (x : A) → same x x ≡ true
   pub height : A → ℕ
@@ -100,7 +102,8 @@ module _ {A : Type 0} (g : Graph) (f : (ℕ → A) → ℕ → A) where
 
 -- ---- the rounds of a monotone rule on a net without a loop
 
-module _ {A : Type 0} {g : Graph} {le : A → A → Type 0} {f : (ℕ → A) → ℕ → A} {first : ℕ → A} (r : Ranked g) (M : Monotone g le f first) where
+module _ {A : Type 0} {g : Graph} {le : A → A → Type 0} {f : (ℕ → A) → ℕ → A} {first : ℕ → A}
+    (r : Ranked g) (M : Monotone g le f first) where
   round-input : (s : ℕ → A) (v : ℕ) → g .role v ≡ input → round g f s v ≡ s v
   unfolding round
   round-input s v e = settle-input g f (step g f s) v e ∙ step-input g f s v e
@@ -133,7 +136,8 @@ module _ {A : Type 0} {g : Graph} {le : A → A → Type 0} {f : (ℕ → A) →
       → ((v : ℕ) → v < g .size → g .role v ≡ register → le (s v) (c v))
       → (v : ℕ) → v < g .size → le (s v) (c v)
   settled-closed s c hs hc a b =
-      by-rank r (λ v. le (s v) (c v)) a b (λ v h e ih. rw (hs v h e) (M .transitive _ _ _ (M .wires s c v h e ih) (hc v h)))
+      by-rank r (λ v. le (s v) (c v)) a b
+      (λ v h e ih. rw (hs v h e) (M .transitive _ _ _ (M .wires s c v h e ih) (hc v h)))
 
   -- before any round
   abbrev start : ℕ → A
@@ -213,7 +217,8 @@ module _ {A : Type 0} {g : Graph} {le : A → A → Type 0} {f : (ℕ → A) →
     unfolding still weight sumRegisters
     heavier s up e =
         sum-strict _ _ (unchanged g f same s) (g .size)
-        (λ v h. by-role (g .role v) (λ d. rw d (le-refl _)) (λ d. rw d (le-refl _)) (λ d. rw d (height-le _ _ (round-above s up v h))))
+        (λ v h. by-role (g .role v) (λ d. rw d (le-refl _)) (λ d. rw d (le-refl _))
+        (λ d. rw d (height-le _ _ (round-above s up v h))))
         (λ v h q. by-role (g .role v)
         (λ d. true-false (sym (unchanged-input g f same s v d) ∙ q))
         (λ d. true-false (sym (unchanged-wire g f same s v d) ∙ q))
@@ -225,13 +230,15 @@ module _ {A : Type 0} {g : Graph} {le : A → A → Type 0} {f : (ℕ → A) →
     unfolding weight sumRegisters
     capped s =
         sum-mono _ _ (g .size)
-        (λ v h. by-role (g .role v) (λ d. rw d (le-refl _)) (λ d. rw d (le-refl _)) (λ d. rw (d, round-register s v d) (H .capped s v h d)))
+        (λ v h. by-role (g .role v) (λ d. rw d (le-refl _)) (λ d. rw d (le-refl _))
+        (λ d. rw (d, round-register s v d) (H .capped s v h d)))
 
     -- where no register is changed the test says so, and where it doesn't a register is changed
     still-sound : (s : ℕ → A) → still g f same s ≡ true → Still g f s
     unfolding still
     still-sound s e v h d =
-        H .same-eq _ _ (sym (unchanged-register g f same s v d) ∙ of-T _ (all-at (unchanged g f same s) (g .size) (T-of _ e) v h))
+        H .same-eq _ _ (sym (unchanged-register g f same s v d) ∙ of-T _
+        (all-at (unchanged g f same s) (g .size) (T-of _ e) v h))
 
     changing : (s : ℕ → A) → still g f same s ≡ false → Changing g f s
     unfolding still
@@ -242,7 +249,8 @@ module _ {A : Type 0} {g : Graph} {le : A → A → Type 0} {f : (ℕ → A) →
 
         find : (v : ℕ) × (v < g .size) × T (not (unchanged g f same s v)) → Changing g f s
         find (v, h, t) =
-            by-role (g .role v) (λ d. passed v (unchanged-input g f same s v d) t) (λ d. passed v (unchanged-wire g f same s v d) t)
+            by-role (g .role v) (λ d. passed v (unchanged-input g f same s v d) t)
+            (λ d. passed v (unchanged-wire g f same s v d) t)
             (λ d. (v, h, d, λ q. passed-same d q))
           where
             passed-same : g .role v ≡ register → round g f s v ≡ s v → ⊥
@@ -276,7 +284,8 @@ module _ {A : Type 0} {g : Graph} {le : A → A → Type 0} {f : (ℕ → A) →
     count-weight (suc limit) s up = go (still g f same s) refl (count-weight limit (round g f s) (round-rising s up))
       where
         go : (b : Bool) → still g f same s ≡ b
-            → count g f same limit (round g f s) + weight (round g f s) ≤ weight (after g f (count g f same limit (round g f s)) (round g f s))
+            → count g f same limit (round g f s) + weight (round g f s) ≤ weight
+            (after g f (count g f same limit (round g f s)) (round g f s))
             → count g f same (suc limit) s + weight s ≤ weight (after g f (count g f same (suc limit) s) s)
         go true e ih = rw (count-stop g f same limit s e) (omega arith)
         go false e ih = rw (count-more g f same limit s e) (omega (arith, ih, heavier s up e))
@@ -288,7 +297,12 @@ module _ {A : Type 0} {g : Graph} {le : A → A → Type 0} {f : (ℕ → A) →
         go : (k : ℕ) → count g f same limit start ≡ k → count g f same limit start ≤ sumRegisters g most
         go zero e = omega arith
         go (suc j) e =
-            omega (arith, rw e at (count-weight limit start start-rising), rw (← after-suc g f j start) at (capped (after g f j start)))
+            omega (
+              arith,
+              rw e at (count-weight limit start start-rising),
+              rw (← after-suc g f j start) at
+                  (capped (after g f j start)),
+            )
 
     -- The round after the count changes no register, and every earlier one changes some.
     pub count-counts : (limit : ℕ) → sumRegisters g most ≤ limit → Counts g f start (count g f same limit start)

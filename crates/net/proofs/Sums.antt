@@ -49,7 +49,8 @@ sum-one zero = refl
 sum-one (suc n) = omega (arith, sum-one n)
 
 scale-role : (r : Role) (k x : ℕ)
-    → elim r as (λ _. ℕ) [ input ↦ zero | wire ↦ zero | register ↦ k * x ] ≡ k * elim r as (λ _. ℕ) [ input ↦ zero | wire ↦ zero | register ↦ x ]
+    → elim r as (λ _. ℕ) [ input ↦ zero | wire ↦ zero | register ↦ k * x ] ≡ k * elim r as
+    (λ _. ℕ) [ input ↦ zero | wire ↦ zero | register ↦ x ]
 scale-role input k x = sym (mul-zero k)
 scale-role wire k x = sym (mul-zero k)
 scale-role register k x = refl

@@ -16,7 +16,8 @@ use Rattle.net.proofs.Settle.{by-rank, Ranked, Local, step-input, step-
 -- `Rel x a b` is what the lattice's element x says of a variable's numbers a and b in the two runs. A wire's numbers
 -- are related by its rule where those that it uses are. A register is asked for where the store is fixed, and may use
 -- that its old numbers are related.
-pub record Sound {A : Type 0} (g : Graph) (f : (ℕ → A) → ℕ → A) (values : (ℕ → ℕ) → ℕ → ℕ) (Rel : A → ℕ → ℕ → Type 0) : Type 0 where
+pub record Sound {A : Type 0} (g : Graph) (f : (ℕ → A) → ℕ → A) (values : (ℕ → ℕ) → ℕ → ℕ)
+    (Rel : A → ℕ → ℕ → Type 0) : Type 0 where
   pub local : Local g values
   pub wires : (s : ℕ → A) (m m′ : ℕ → ℕ) (v : ℕ) → v < g .size → g .role v ≡ wire
       → ((u : ℕ) → Uses g v u → Rel (s u) (m u) (m′ u))
@@ -39,7 +40,12 @@ module _ {A : Type 0} {g : Graph} {f : (ℕ → A) → ℕ → A} {values : (ℕ
       by-rank r (λ v. Rel (s v) (settle g values m v) (settle g values m′ v))
       (λ v h e. rw (settle-input g values m v e, settle-input g values m′ v e) (a v h e))
       (λ v h e. rw (settle-register g values m v e, settle-register g values m′ v e) (b v h e))
-      (λ v h e ih. rw (fixed v h, settle-settled r values (S .local) m v h e, settle-settled r values (S .local) m′ v h e) (S .wires s _ _ v h e ih))
+      (λ v h e ih. rw (
+        fixed v h,
+        settle-settled r values (S .local) m v h e,
+        settle-settled r values
+            (S .local) m′ v h e,
+      ) (S .wires s _ _ v h e ih))
 
   tick-related : (m m′ : ℕ → ℕ) → Related m m′ → Related (round g values m) (round g values m′)
   unfolding round
