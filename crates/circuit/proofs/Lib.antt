@@ -1,4 +1,5 @@
 pub mod Operators
+pub mod Decoding
 pub mod Records
 pub mod Tables
 pub mod Values

@@ -37,16 +37,18 @@ fieldsAt t at = record {
 abbrev pub inputKindOf : ℕ → ℕ → InputKind
 inputKindOf code n = getD (Fixed n ∷ Free ∷ []) code Secret
 
--- byte 0: 0 input, 1 constant, 2 operator, 3 multiplexer, 4 register; ground 5 turns away every other, a register here
-unfoldable pub decode : Fields → Record
-decode f =
-    getD
-    (Input (f .width) (inputKindOf (f .code) (f .value))
+-- what fields read as for kinds 0 to 3: an input, a constant, an operator, a multiplexer
+abbrev pub firstKinds : Fields → List Record
+firstKinds f =
+    Input (f .width) (inputKindOf (f .code) (f .value))
     ∷ Constant (f .width) (f .value)
     ∷ Operator (f .width) (operatorOf (f .code)) (f .a) (f .b)
     ∷ Multiplexer (f .width) (f .a) (f .b) (f .c)
-    ∷ [])
-    (f .kind) (Register (f .width) (f .a) (f .value))
+    ∷ []
+
+-- what fields read as; kind 4 is a register, and ground 5 turns away every other, which reads as a register here
+unfoldable pub decode : Fields → Record
+decode f = getD (firstKinds f) (f .kind) (Register (f .width) (f .a) (f .value))
 
 -- the fields with the bytes that must be 0
 abbrev fields : ℕ → ℕ → ℕ → ℕ → ℕ → ℕ → ℕ → Fields

@@ -1,9 +1,11 @@
 -- The five kinds of record: width, uses, which are inputs, wires and registers, and which inputs are fixed, free or
 -- secret.
 -- Assumes nothing.
+use mathlib.Core.Bool.{Bool, true, false}
 use mathlib.Core.List.{List, [], _∷_}
 use mathlib.Core.Option.{Option, none, some}
-use Prim.Native.Nat.{ℕ}
+use Prim.Native.Nat.{ℕ, suc}
+use lib.ListN.{length}
 use Rattle.net.specs.Net.{Role, input, wire, register}
 use Rattle.circuit.specs.declared.record.InputKind.{InputKind}
 use Rattle.circuit.specs.declared.record.Record.{Record}
@@ -39,3 +41,11 @@ inputOf (Constant w n) = none
 inputOf (Operator w op a b) = none
 inputOf (Multiplexer w a b c) = none
 inputOf (Register w a n) = none
+
+-- 0 for a record that is no wire, else one more than the number of variables that it uses
+abbrev pub wireUses : Record → ℕ
+wireUses r = elim (role r) [ input ↦ 0 | wire ↦ suc (length (uses r)) | register ↦ 0 ]
+
+-- whether a record is a register
+abbrev pub isRegister : Record → Bool
+isRegister r = elim (role r) [ input ↦ false | wire ↦ false | register ↦ true ]

@@ -1,0 +1,99 @@
+-- What a record's fields decode to, by the kind byte.
+-- Assumes nothing.
+use mathlib.Core.Path.{_≡_, refl, ap}
+use mathlib.Core.List.{List, [], _∷_}
+use Prim.Native.Nat.{ℕ, zero, suc, _+_, _*_, _≤_, _<_, zero-le}
+use native.Mathlib.Omega.{arith}
+use borrow.Author.Tests.{le-leb}
+use lib.Dec.{leb}
+use lib.ListN.{getD, List·getD-eq-default}
+use Rattle.circuit.specs.declared.record.Fields.{Fields}
+use Rattle.circuit.specs.declared.record.Record.the-variants.{Input, Constant, Operator, Multiplexer, Register}
+use Rattle.circuit.specs.Number.{u16At}
+use Rattle.circuit.specs.Operator.{operatorOf}
+use Rattle.circuit.specs.Record.{uses, wireUses, isRegister}
+use Rattle.circuit.specs.Reading.{fieldsAt, inputKindOf, firstKinds, decode}
+
+-- a number that is at least k and not k is past it
+pub past : (n k : ℕ) → k ≤ n → (n ≡ k → ⊥) → k + 1 ≤ n
+past n k h ne = omega arith
+
+pub past4 : (n : ℕ) → (n ≡ 0 → ⊥) → (n ≡ 1 → ⊥) → (n ≡ 2 → ⊥) → (n ≡ 3 → ⊥) → 4 ≤ n
+past4 n a b c d = past n 3 (past n 2 (past n 1 (past n 0 zero-le a) b) c) d
+
+module _ (f : Fields) where
+  pub decode-input : f .kind ≡ 0 → decode f ≡ Input (f .width) (inputKindOf (f .code) (f .value))
+  unfolding decode
+  decode-input e = rw e
+
+  pub decode-constant : f .kind ≡ 1 → decode f ≡ Constant (f .width) (f .value)
+  unfolding decode
+  decode-constant e = rw e
+
+  pub decode-operator : f .kind ≡ 2 → decode f ≡ Operator (f .width) (operatorOf (f .code)) (f .a) (f .b)
+  unfolding decode
+  decode-operator e = rw e
+
+  pub decode-multiplexer : f .kind ≡ 3 → decode f ≡ Multiplexer (f .width) (f .a) (f .b) (f .c)
+  unfolding decode
+  decode-multiplexer e = rw e
+
+  pub decode-register : 4 ≤ f .kind → decode f ≡ Register (f .width) (f .a) (f .value)
+  unfolding decode
+  decode-register h = List·getD-eq-default (firstKinds f) (Register (f .width) (f .a) (f .value)) h
+
+by-kind : {P : Type 0} (k : ℕ) → (k ≡ 0 → P) → (k ≡ 1 → P) → (k ≡ 2 → P) → (k ≡ 3 → P) → (4 ≤ k → P) → P
+by-kind zero a b c d e = a refl
+by-kind (suc zero) a b c d e = b refl
+by-kind (suc (suc zero)) a b c d e = c refl
+by-kind (suc (suc (suc zero))) a b c d e = d refl
+by-kind (suc (suc (suc (suc k)))) a b c d e = e (omega arith)
+
+pub wireUses-most : (f : Fields) → wireUses (decode f) ≤ 4
+wireUses-most f =
+    by-kind (f .kind)
+    (λ e. rw (decode-input f e) (omega arith))
+    (λ e. rw (decode-constant f e) (omega arith))
+    (λ e. rw (decode-operator f e) (omega arith))
+    (λ e. rw (decode-multiplexer f e) (omega arith))
+    (λ h. rw (decode-register f h) (omega arith))
+
+-- the variables that a wire uses stand two bytes apart
+pub use-number : (t : List ℕ) (at k : ℕ) → k + 1 < wireUses (decode (fieldsAt t at))
+    → u16At t (at + 4 + k * 2) ≡ getD (uses (decode (fieldsAt t at))) k 0
+use-number t at k h =
+    by-kind (f .kind)
+    (λ e. absurd (none (rw (decode-input f e) at h)))
+    (λ e. absurd (one k (rw (decode-constant f e) at h)))
+    (λ e. rw (decode-operator f e) (two k (rw (decode-operator f e) at h)))
+    (λ e. rw (decode-multiplexer f e) (three k (rw (decode-multiplexer f e) at h)))
+    (λ e. absurd (none (rw (decode-register f e) at h)))
+  where
+    f : Fields
+    f = fieldsAt t at
+
+    none : k + 1 < 0 → ⊥
+    none h = omega arith
+
+    one : (k : ℕ) → k + 1 < 1 → ⊥
+    one k h = omega arith
+
+    two : (k : ℕ) → k + 1 < 3 → u16At t (at + 4 + k * 2) ≡ getD (f .a ∷ f .b ∷ []) k 0
+    two zero h = ap (u16At t) (omega arith)
+    two (suc zero) h = ap (u16At t) (omega arith)
+    two (suc (suc k)) h = absurd (omega arith)
+
+    three : (k : ℕ) → k + 1 < 4 → u16At t (at + 4 + k * 2) ≡ getD (f .a ∷ f .b ∷ f .c ∷ []) k 0
+    three zero h = ap (u16At t) (omega arith)
+    three (suc zero) h = ap (u16At t) (omega arith)
+    three (suc (suc zero)) h = ap (u16At t) (omega arith)
+    three (suc (suc (suc k))) h = absurd (omega arith)
+
+pub register-test : (f : Fields) → leb 4 (f .kind) ≡ isRegister (decode f)
+register-test f =
+    by-kind (f .kind)
+    (λ e. rw (decode-input f e, e))
+    (λ e. rw (decode-constant f e, e))
+    (λ e. rw (decode-operator f e, e))
+    (λ e. rw (decode-multiplexer f e, e))
+    (λ h. rw (decode-register f h) (le-leb 4 (f .kind) h))
