@@ -2,7 +2,7 @@
 -- Assumes nothing.
 use mathlib.Core.Path.{_≡_, refl, ap}
 use mathlib.Core.List.{List, [], _∷_}
-use Prim.Native.Nat.{ℕ, zero, suc, _+_, _*_, _≤_, _<_, zero-le}
+use Prim.Native.Nat.{ℕ, zero, suc, _+_, _*_, _≤_, _<_}
 use native.Mathlib.Omega.{arith}
 use borrow.Author.Tests.{le-leb}
 use lib.Dec.{leb}
@@ -13,13 +13,6 @@ use Rattle.circuit.specs.Number.{u16At}
 use Rattle.circuit.specs.Operator.{operatorOf}
 use Rattle.circuit.specs.Record.{uses, wireUses, isRegister}
 use Rattle.circuit.specs.Reading.{fieldsAt, inputKindOf, firstKinds, decode}
-
--- a number that is at least k and not k is past it
-pub past : (n k : ℕ) → k ≤ n → (n ≡ k → ⊥) → k + 1 ≤ n
-past n k h ne = omega arith
-
-pub past4 : (n : ℕ) → (n ≡ 0 → ⊥) → (n ≡ 1 → ⊥) → (n ≡ 2 → ⊥) → (n ≡ 3 → ⊥) → 4 ≤ n
-past4 n a b c d = past n 3 (past n 2 (past n 1 (past n 0 zero-le a) b) c) d
 
 module _ (f : Fields) where
   pub decode-input : f .kind ≡ 0 → decode f ≡ Input (f .width) (inputKindOf (f .code) (f .value))

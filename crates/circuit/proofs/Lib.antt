@@ -1,6 +1,9 @@
+pub mod Bytes
+pub mod Lookups
 pub mod Operators
 pub mod Decoding
 pub mod Records
 pub mod Tables
+pub mod Scan
 pub mod Values
 pub mod Stimuli

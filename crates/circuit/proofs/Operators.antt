@@ -1,13 +1,13 @@
 -- Laws of the operators, at every width.
 -- Assumes nothing.
-use mathlib.Core.Path.{_≡_, refl, ap, _∙_}
-use Prim.Native.Nat.{ℕ, _+_, _-_, _*_, _/_, _%_, _^_, _<_}
-use native.Mathlib.Nat.{mod-lt, mod-add-mod, add-mod-right, add-mul-mod-self-right, div-add-mod'}
+use mathlib.Core.Path.{_≡_, refl, sym, ap, _∙_, subst}
+use Prim.Native.Nat.{ℕ, _+_, _-_, _*_, _/_, _%_, _^_, _<_, _≤_}
+use native.Mathlib.Nat.{mod-lt, mod-add-mod, add-mod-right, add-mul-mod-self-right, div-add-mod', sub-add-cancel}
 use native.Mathlib.Omega.{arith}
-use lib.Pow.{pow-pos}
+use lib.Pow.{pow-pos, mod-mod-pow}
 use Rattle.circuit.specs.declared.operator.Operator.{Operator}
 use Rattle.circuit.specs.declared.operator.Operator.the-variants.{Add, Sub, And, Or, Xor, Equal, Less, ShiftLeft, ShiftRight}
-use Rattle.circuit.specs.Operator.{operatorCode, operatorOf, apply, result}
+use Rattle.circuit.specs.Operator.{operatorCode, operatorOf, apply, result, resultOfCode}
 
 -- the operator of an operator's code is that operator
 pub operator-code : (op : Operator) → operatorOf (operatorCode op) ≡ op
@@ -36,3 +36,50 @@ sub-add w a b =
     ∙ ap (λ x. x % 2 ^ w) whole
     ∙ add-mod-right (a + b / 2 ^ w * 2 ^ w) (2 ^ w)
     ∙ add-mul-mod-self-right a (b / 2 ^ w) (2 ^ w)
+
+-- the remainder by a smaller power of two of a remainder by a greater
+pub narrow-narrow : (n k w : ℕ) → w ≤ k → n % 2 ^ k % 2 ^ w ≡ n % 2 ^ w
+narrow-narrow n k w h = subst (λ (m : ℕ). n % 2 ^ m % 2 ^ w ≡ n % 2 ^ w) (sub-add-cancel h) (mod-mod-pow n (k - w) w)
+
+-- what with b added gives a, by remainders, is a - b
+pub sub-unique : (w a b r : ℕ) → (r + b) % 2 ^ w ≡ a % 2 ^ w → r % 2 ^ w ≡ result Sub w a b
+unfolding result
+sub-unique w a b r e =
+    let rest = 2 ^ w - b % 2 ^ w in
+    let whole : r + b + rest ≡ r + b / 2 ^ w * 2 ^ w + 2 ^ w = omega (arith, div-add-mod' b (2 ^ w), mod-lt b (pow-pos w)) in
+    sym (add-mul-mod-self-right r (b / 2 ^ w) (2 ^ w))
+    ∙ sym (add-mod-right (r + b / 2 ^ w * 2 ^ w) (2 ^ w))
+    ∙ ap (λ x. x % 2 ^ w) (sym whole)
+    ∙ sym (mod-add-mod (r + b) (2 ^ w) rest)
+    ∙ ap (λ x. (x + rest) % 2 ^ w) e
+    ∙ mod-add-mod a (2 ^ w) rest
+
+-- evaluating by an operator's code gives the operator's result
+pub result-of-code : (op : Operator) (w a b : ℕ) → resultOfCode (operatorCode op) w a b ≡ result op w a b
+result-of-code Add w a b = refl
+result-of-code Sub w a b = refl
+result-of-code And w a b = refl
+result-of-code Or w a b = refl
+result-of-code Xor w a b = refl
+result-of-code Equal w a b = refl
+result-of-code Less w a b = refl
+result-of-code ShiftLeft w a b = refl
+result-of-code ShiftRight w a b = refl
+
+-- ---- what 32 bits hold, at every width
+
+module _ (a b r : ℕ) where
+  pub add-wraps : r ≡ (a + b) % 2 ^ 32 → (w : ℕ) → w ≤ 32 → r % 2 ^ w ≡ result Add w a b
+  unfolding result
+  add-wraps e w h = rw e (narrow-narrow (a + b) 32 w h)
+
+  pub sub-wraps : (r + b) % 2 ^ 32 ≡ a → (w : ℕ) → w ≤ 32 → r % 2 ^ w ≡ result Sub w a b
+  sub-wraps e w h = sub-unique w a b r (sym (narrow-narrow (r + b) 32 w h) ∙ ap (λ x. x % 2 ^ w) e)
+
+  pub shift-left-wraps : r ≡ apply ShiftLeft 32 a b % 2 ^ 32 → (w : ℕ) → w ≤ 32 → r % 2 ^ w ≡ result ShiftLeft w a b
+  unfolding result
+  shift-left-wraps e w h = rw e (narrow-narrow (apply ShiftLeft w a b) 32 w h)
+
+  pub shift-right-wraps : r ≡ apply ShiftRight 32 a b → (w : ℕ) → w ≤ 32 → r % 2 ^ w ≡ result ShiftRight w a b
+  unfolding result
+  shift-right-wraps e w h = rw e

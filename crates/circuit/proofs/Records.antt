@@ -2,11 +2,11 @@
 -- and none of grounds 5 to 10 holds of them.
 -- Assumes nothing.
 use mathlib.Core.Path.{_≡_, refl, sym, ap}
-use mathlib.Core.Bool.{Bool, true, false, not, _||_}
-use mathlib.Core.List.{_∷_}
+use mathlib.Core.Bool.{Bool, true, false, not, _&&_, _||_, and-true}
+use mathlib.Core.List.{[], _∷_}
 use Prim.Native.Nat.{ℕ, _^_, _<_, _≤_}
 use native.Mathlib.Omega.{arith}
-use borrow.Author.Tests.{ltb-false, leb-false, eqb-false, not-false}
+use borrow.Author.Tests.{ltb-false, leb-false, eqb-false, not-false, lt-ltb, le-ltb}
 use lib.Dec.{eqb, leb, ltb}
 use Rattle.net.specs.Tests.{every}
 use Rattle.circuit.specs.declared.record.Fields.{Fields}
@@ -79,3 +79,52 @@ read-valid f n r e =
       },
       sym (same-record (p10 .1)),
     )
+
+-- asking twice is asking once
+pub and-twice : (a b : Bool) → (a && (a && b)) ≡ (a && b)
+and-twice true b = refl
+and-twice false b = refl
+
+-- ---- the grounds in order
+
+pub width-most : (w : ℕ) → (eqb w 0 || ltb 32 w) ≡ false → w ≤ 32
+width-most w e = ltb-false 32 w (or-false (eqb w 0) (ltb 32 w) e .1)
+
+pub three-below : (a b c n : ℕ) → ltb a n ≡ true → ltb b n ≡ true → ltb c n ≡ every (λ v. ltb v n) (a ∷ b ∷ c ∷ [])
+unfolding every
+three-below a b c n h k = rw (h, k) (sym (and-true (ltb c n)))
+
+module _ (f : Fields) (n : ℕ) where
+  pub refused-kind : 5 ≤ f .kind → Refused UnknownKind ≡ readRecord f n
+  unfolding readRecord
+  refused-kind h = rw (lt-ltb 4 (f .kind) h)
+
+  module _ (kind : f .kind ≤ 4) where
+    pub refused-width : (eqb (f .width) 0 || ltb 32 (f .width)) ≡ true → Refused BadWidth ≡ readRecord f n
+    unfolding readRecord
+    refused-width w = rw (le-ltb 4 (f .kind) kind, w)
+
+    module _ (w : (eqb (f .width) 0 || ltb 32 (f .width)) ≡ false) where
+      pub refused-code : leb (codes (f .kind)) (f .code) ≡ true → Refused UnknownCode ≡ readRecord f n
+      unfolding readRecord
+      refused-code k = rw (le-ltb 4 (f .kind) kind, w, k)
+
+      module _ (k : leb (codes (f .kind)) (f .code) ≡ false) where
+        pub refused-zeros : every (λ x. eqb x 0) (f .byte3 ∷ f .bytes10 ∷ unused (decode f) f) ≡ false
+            → Refused UnusedNotZero ≡ readRecord f n
+        unfolding readRecord
+        refused-zeros z = rw (le-ltb 4 (f .kind) kind, w, k, z)
+
+        module _ (z : every (λ x. eqb x 0) (f .byte3 ∷ f .bytes10 ∷ unused (decode f) f) ≡ true) where
+          pub refused-variables : every (λ v. ltb v n) (uses (decode f)) ≡ false → Refused NoSuchVariable ≡ readRecord f n
+          unfolding readRecord
+          refused-variables u = rw (le-ltb 4 (f .kind) kind, w, k, z, u)
+
+          module _ (u : every (λ v. ltb v n) (uses (decode f)) ≡ true) where
+            pub refused-value : leb (2 ^ f .width) (f .value) ≡ true → Refused ValueTooWide ≡ readRecord f n
+            unfolding readRecord
+            refused-value x = rw (le-ltb 4 (f .kind) kind, w, k, z, u, x)
+
+            pub accepted : leb (2 ^ f .width) (f .value) ≡ false → Read (decode f) ≡ readRecord f n
+            unfolding readRecord
+            accepted x = rw (le-ltb 4 (f .kind) kind, w, k, z, u, x)

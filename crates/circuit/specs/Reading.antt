@@ -1,12 +1,18 @@
 -- A record from its 16 bytes and the number of records: its fields, what they read as, and grounds 5 to 10 in order.
 -- Assumes nothing.
 use mathlib.Core.Bool.{Bool, true, false, not, _||_}
-use mathlib.Core.List.{List, [], _∷_}
+use mathlib.Core.List.{List, [], _∷_, map}
 use Prim.Native.Nat.{ℕ, _+_, _^_}
 use lib.Dec.{eqb, leb, ltb}
 use lib.ListN.{getD}
 use Rattle.net.specs.Tests.{every}
 use Rattle.circuit.specs.declared.record.Fields.{Fields}
+use Rattle.circuit.specs.declared.record.Kind.{Kind}
+use Rattle.circuit.specs.declared.record.Kind.the-variants as kind
+use Rattle.circuit.specs.declared.record.ReadKind.{ReadKind}
+use Rattle.circuit.specs.declared.record.ReadKind.the-variants as read-kind
+use Rattle.circuit.specs.declared.record.ReadInput.{ReadInput}
+use Rattle.circuit.specs.declared.record.ReadInput.the-variants as read-input
 use Rattle.circuit.specs.declared.record.InputKind.{InputKind}
 use Rattle.circuit.specs.declared.record.InputKind.the-variants.{Fixed, Free, Secret}
 use Rattle.circuit.specs.declared.record.Record.{Record}
@@ -33,9 +39,33 @@ fieldsAt t at = record {
   value = u32At t (at + 12);
 }
 
--- byte 2 of an input: 0 fixed, 1 free, 2 secret; ground 7 turns away every other, which reads as secret here
+-- document 01's number of each kind, byte 0
+abbrev pub kindNumber : Kind → ℕ
+kindNumber kind.Input = 0
+kindNumber kind.Constant = 1
+kindNumber kind.Operator = 2
+kindNumber kind.Multiplexer = 3
+kindNumber kind.Register = 4
+
+-- the kinds in the order of their numbers
+abbrev pub kinds : List Kind
+kinds = kind.Input ∷ kind.Constant ∷ kind.Operator ∷ kind.Multiplexer ∷ kind.Register ∷ []
+
+-- the kind of a byte, if it has one
+abbrev pub readKind : ℕ → ReadKind
+readKind byte = getD (map read-kind.Is kinds) byte read-kind.None
+
+-- byte 2 of an input with the value n: 0 fixed, 1 free, 2 secret
+abbrev pub inputKinds : ℕ → List InputKind
+inputKinds n = Fixed n ∷ Free ∷ Secret ∷ []
+
+-- the kind of input of a code, if it has one
+abbrev pub readInput : ℕ → ℕ → ReadInput
+readInput code n = getD (map read-input.Is (inputKinds n)) code read-input.None
+
+-- the kind of input of a code; ground 7 turns away every code past the last, which reads as secret here
 abbrev pub inputKindOf : ℕ → ℕ → InputKind
-inputKindOf code n = getD (Fixed n ∷ Free ∷ []) code Secret
+inputKindOf code n = getD (inputKinds n) code Secret
 
 -- what fields read as for kinds 0 to 3: an input, a constant, an operator, a multiplexer
 abbrev pub firstKinds : Fields → List Record
@@ -52,8 +82,8 @@ decode f = getD (firstKinds f) (f .kind) (Register (f .width) (f .a) (f .value))
 
 -- the fields with the bytes that must be 0
 abbrev fields : ℕ → ℕ → ℕ → ℕ → ℕ → ℕ → ℕ → Fields
-fields kind width code a b c value =
-    record { kind = kind; width = width; code = code; byte3 = 0; a = a; b = b; c = c; bytes10 = 0; value = value }
+fields byte0 width code a b c value =
+    record { kind = byte0; width = width; code = code; byte3 = 0; a = a; b = b; c = c; bytes10 = 0; value = value }
 
 -- document 01's numbers of each kind of record: kind, width, byte 2, A, B, C and value
 abbrev pub encode : Record → Fields
@@ -67,7 +97,7 @@ encode (Register w a n) = fields 4 w 0 a 0 0 n
 
 -- how many values byte 2 has for a kind: three for an input, nine for an operator, otherwise 0 alone
 abbrev pub codes : ℕ → ℕ
-codes kind = getD (3 ∷ 1 ∷ 9 ∷ []) kind 1
+codes byte = getD (3 ∷ 1 ∷ 9 ∷ []) byte 1
 
 -- the variable numbers and the value that a record does not use
 abbrev pub unused : Record → Fields → List ℕ

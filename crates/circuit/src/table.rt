@@ -1,11 +1,13 @@
-// What the schedule asks of a table's records: which are wires, what they use, which are registers. Each reads only the bytes
-// that it needs.
+// A table's records: which are wires, what they use, which are registers, and a record whole.
 ghost use mathlib.Core.Path.{_≡_};
 ghost use Prim.Native.Nat.{_+_, _*_, _≤_, _<_};
 ghost use lib.ListN.{length, getD};
 ghost use Rattle.circuit.specs.Record.{uses, wireUses, isRegister};
 ghost use Rattle.circuit.specs.Reading.{fieldsAt, decode};
 use crate::number::u16_at;
+use crate::record;
+use crate::record::Record;
+use crate::record::fields_at;
 
 // 0 where record v is no wire, else one more than the number of variables that it uses.
 pub fn wire_uses(t: &[u8], v: usize) -> u16
@@ -38,4 +40,12 @@ pub fn is_register(t: &[u8], v: usize) -> bool
 {
     let kind = t[v * 16];
     4 <= kind
+}
+
+// Record v, read without a check.
+pub fn record_at(t: &[u8], v: usize) -> Record
+    requires { ⌜ v * 16 + 16 ≤ length (now t) ⌝ }
+    ensures { λ r. ⌜ r ≡ decode (fieldsAt (now (t .entry)) (v * 16)) ⌝ }
+{
+    record::decode(fields_at(t, v * 16))
 }

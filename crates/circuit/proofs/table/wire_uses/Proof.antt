@@ -3,7 +3,8 @@
 use borrow.Author.Needs.{needs}
 use Prim.Native.Nat.{_*_}
 use Rattle.circuit.specs.Reading.{fieldsAt}
-use Rattle.circuit.proofs.Decoding.{past4, decode-input, decode-constant, decode-operator, decode-multiplexer, decode-register}
+use Rattle.circuit.proofs.Bytes.{past4}
+use Rattle.circuit.proofs.Decoding.{decode-input, decode-constant, decode-operator, decode-multiplexer, decode-register}
 use Rattle.circuit.proofs.table.wire_uses.Statement.{statement}
 use Rattle.circuit.proofs.table.wire_uses.Tie as tie
 

@@ -1,0 +1,69 @@
+// The checks that a service puts in order: the table's length, the lent buffers, the records.
+ghost use mathlib.Core.Path.{_≡_};
+ghost use Prim.Native.Nat.{_*_, _≤_};
+ghost use lib.ListN.{length};
+ghost use Rattle.circuit.specs.Checks.{checkLength, checkOutput, checkScratch, atRecord, checkRecords};
+use crate::record::ReadRecord;
+use crate::record::fields_at;
+use crate::record::read_record;
+use crate::refusal::Check;
+use crate::refusal::Ground;
+
+// Grounds 1 and 2.
+pub fn check_length(bytes: usize) -> Check
+    ensures { λ r. ⌜ r ≡ checkLength bytes ⌝ }
+{
+    if 65536 < bytes {
+        return Check::Refused(Ground::TableTooLong, 0);
+    }
+    if bytes % 16 != 0 {
+        return Check::Refused(Ground::TableNotWhole, 0);
+    }
+    Check::Passed
+}
+
+// Ground 3.
+pub fn check_output(lent: usize, asked: usize) -> Check
+    ensures { λ r. ⌜ r ≡ checkOutput lent asked ⌝ }
+{
+    if lent < asked {
+        return Check::Refused(Ground::OutputShort, 0);
+    }
+    Check::Passed
+}
+
+// Ground 4.
+pub fn check_scratch(lent: usize, asked: usize) -> Check
+    ensures { λ r. ⌜ r ≡ checkScratch lent asked ⌝ }
+{
+    if lent < asked {
+        return Check::Refused(Ground::ScratchShort, 0);
+    }
+    Check::Passed
+}
+
+// A record's refusal has the record as its place.
+fn at_record(read: ReadRecord, i: usize) -> Check
+    ensures { λ r. ⌜ r ≡ atRecord read i ⌝ }
+{
+    match read {
+        ReadRecord::Read(_) => Check::Passed,
+        ReadRecord::Refused(ground) => Check::Refused(ground, i),
+    }
+}
+
+// Grounds 5 to 10 of the first n records.
+pub fn check_records(t: &[u8], n: usize) -> Check
+    requires { ⌜ n * 16 ≤ length (now t) ⌝ }
+    ensures { λ r. ⌜ r ≡ checkRecords (now (t .entry)) n ⌝ }
+{
+    let mut i: usize = 0;
+    while i < n {
+        let read = read_record(fields_at(t, i * 16), n);
+        let ReadRecord::Read(_) = read else {
+            return at_record(read, i);
+        };
+        i += 1;
+    }
+    Check::Passed
+}
