@@ -1,9 +1,118 @@
-// Facts about the variables of a circuit: their order, the rule of each kind of record, the rounds, and the
-// certificate. Document 01's cases A to J are proved here from bytes.
+// Facts about the variables of a circuit: their order, the rule of each kind of record, the rounds, and the certificate.
+// Document 01's cases A to J are proved here from bytes.
+ghost use mathlib.Core.Path.{_≡_};
+ghost use Prim.Native.Nat.{_≤_};
+ghost use Rattle.fact.specs.Fact as facts;
+ghost use Rattle.fact.specs.Rule as rules;
+use circuit::operator::Operator;
+use circuit::operator::evaluate;
+use circuit::operator::operator_code;
+use circuit::operator::remainder;
+use circuit::record::InputKind;
 
 // What is known of a variable: it always holds one number, it is open, or it is marked, as a secret input can reach it.
 pub enum Fact {
     Always(u32),
     Open,
     Marked,
+}
+
+impl Fact {
+    // The highest fact.
+    pub const MARKED: Fact = Fact::Marked;
+
+    // The fact at width w.
+    pub fn narrow(self, w: u8) -> Fact
+        requires { ⌜ w ≤ 32 ⌝ }
+        ensures { λ r. ⌜ r ≡ facts.narrow w self ⌝ }
+    {
+        match self {
+            Fact::Always(n) => Fact::Always(remainder(n, w)),
+            Fact::Open => Fact::Open,
+            Fact::Marked => Fact::MARKED,
+        }
+    }
+
+    // The lowest fact at or above both.
+    pub fn join(self, other: Fact) -> Fact
+        ensures { λ r. ⌜ r ≡ facts.join self other ⌝ }
+    {
+        match self {
+            Fact::Always(m) => match other {
+                Fact::Always(n) => if m == n { Fact::Always(m) } else { Fact::Open },
+                Fact::Open => Fact::Open,
+                Fact::Marked => Fact::MARKED,
+            },
+            Fact::Open => match other {
+                Fact::Always(_) => Fact::Open,
+                Fact::Open => Fact::Open,
+                Fact::Marked => Fact::MARKED,
+            },
+            Fact::Marked => Fact::MARKED,
+        }
+    }
+
+    // The fact if it is always, else marked.
+    fn always_or_marked(self) -> Fact
+        ensures { λ r. ⌜ r ≡ rules.alwaysOrMarked self ⌝ }
+    {
+        match self {
+            Fact::Always(n) => Fact::Always(n),
+            Fact::Open => Fact::MARKED,
+            Fact::Marked => Fact::MARKED,
+        }
+    }
+}
+
+// An input's rule.
+pub fn input_rule(kind: InputKind) -> Fact
+    ensures { λ r. ⌜ r ≡ rules.inputRule kind ⌝ }
+{
+    match kind {
+        InputKind::Fixed(n) => Fact::Always(n),
+        InputKind::Free => Fact::Open,
+        InputKind::Secret => Fact::MARKED,
+    }
+}
+
+// An operator's rule, on the facts of A and B.
+pub fn operator_rule(op: Operator, w: u8, a: Fact, b: Fact) -> Fact
+    requires { ⌜ w ≤ 32 ⌝ }
+    ensures { λ r. ⌜ r ≡ rules.operatorRule op w a b ⌝ }
+{
+    match a {
+        Fact::Always(x) => match b {
+            Fact::Always(y) => Fact::Always(evaluate(operator_code(op), w, x, y)),
+            Fact::Open => Fact::Open,
+            Fact::Marked => Fact::MARKED,
+        },
+        Fact::Open => match b {
+            Fact::Always(_) => Fact::Open,
+            Fact::Open => Fact::Open,
+            Fact::Marked => Fact::MARKED,
+        },
+        Fact::Marked => Fact::MARKED,
+    }
+}
+
+// A multiplexer's rule, on the facts of A, B and C.
+pub fn multiplexer_rule(w: u8, a: Fact, b: Fact, c: Fact) -> Fact
+    requires { ⌜ w ≤ 32 ⌝ }
+    ensures { λ r. ⌜ r ≡ rules.multiplexerRule w a b c ⌝ }
+{
+    let narrow_b = b.narrow(w);
+    let narrow_c = c.narrow(w);
+    match a {
+        Fact::Always(n) => if n == 0 { narrow_c } else { narrow_b },
+        Fact::Open => narrow_b.join(narrow_c),
+        Fact::Marked => narrow_b.join(narrow_c).always_or_marked(),
+    }
+}
+
+// A register's rule, on the fact of A.
+pub fn register_rule(w: u8, n: u32, a: Fact) -> Fact
+    requires { ⌜ w ≤ 32 ⌝ }
+    ensures { λ r. ⌜ r ≡ rules.registerRule w n a ⌝ }
+{
+    a.narrow(w).join(Fact::Always(n))
 }
