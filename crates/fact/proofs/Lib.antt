@@ -1,3 +1,4 @@
 pub mod Order
 pub mod Claims
 pub mod Certificate
+pub mod Cells

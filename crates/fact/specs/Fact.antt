@@ -1,10 +1,11 @@
 -- Document 01's facts: their order, join and narrowing, and their bytes.
 -- Assumes nothing.
 use mathlib.Core.Bool.{Bool, true, false, cond}
-use mathlib.Core.List.{List, _∷_}
-use Prim.Native.Nat.{ℕ, _%_, _^_}
+use mathlib.Core.List.{List, [], _∷_}
+use Prim.Native.Nat.{ℕ, _+_, _*_, _%_, _^_}
 use lib.Dec.{eqb}
-use Rattle.circuit.specs.Number.{u32Bytes}
+use lib.ListN.{getD}
+use Rattle.circuit.specs.Number.{u32At, u32Bytes}
 use Rattle.fact.specs.declared.Fact.{Fact}
 use Rattle.fact.specs.declared.Fact.the-variants.{Always, Open, Marked}
 
@@ -59,3 +60,11 @@ factNumber Marked = 0
 -- the 8 bytes of a fact in a certificate
 abbrev pub factBytes : Fact → List ℕ
 factBytes f = factByte f ∷ 0 ∷ 0 ∷ 0 ∷ u32Bytes (factNumber f)
+
+-- the fact of a byte 0 and a number
+abbrev pub factOf : ℕ → ℕ → Fact
+factOf byte n = getD (Marked ∷ Always n ∷ Open ∷ []) byte Marked
+
+-- the fact that a certificate's bytes give variable v
+abbrev pub factAt : List ℕ → ℕ → Fact
+factAt cells v = factOf (getD cells (v * 8) 0) (u32At cells (v * 8 + 4))

@@ -1,5 +1,7 @@
 // Facts about the variables of a circuit: their order, the rule of each kind of record, the rounds, and the certificate.
 // Document 01's cases A to J are proved here from bytes.
+pub mod cell;
+
 ghost use mathlib.Core.Path.{_≡_};
 ghost use Prim.Native.Nat.{_≤_};
 ghost use Rattle.fact.specs.Fact as facts;
