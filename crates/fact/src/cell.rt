@@ -1,6 +1,6 @@
 // Facts in a certificate's bytes, 8 a variable.
 ghost use mathlib.Core.Path.{_≡_};
-ghost use Prim.Native.Nat.{_+_, _*_, _≤_};
+ghost use Prim.Native.Nat.{_+_, _*_, _^_, _≤_, _<_};
 ghost use lib.ListN.{length};
 ghost use lib.Seq.{sets};
 ghost use Rattle.fact.specs.Fact.{factByte, factNumber, factBytes, factAt};
@@ -46,6 +46,7 @@ pub fn load(cells: &[u8], v: usize) -> Fact
 pub fn store(cells: &mut [u8], v: usize, f: Fact)
     requires { ⌜ v * 8 + 8 ≤ length (now cells) ⌝ }
     ensures { λ _. ⌜ now (cells .exit) ≡ sets (now (cells .entry)) (v * 8) (factBytes f) ⌝ }
+    ensures { λ _. ⌜ factNumber f < 2 ^ 32 ⌝ }
 {
     let at = v * 8;
     let kind = byte(f);

@@ -1,7 +1,7 @@
 -- Eight bytes, one after another.
 -- Assumes nothing.
-use mathlib.Core.Path.{_∙_}
-use Prim.Native.Nat.{_*_}
+use mathlib.Core.Path.{_∙_, subst}
+use Prim.Native.Nat.{ℕ, _*_, _^_, _<_}
 use native.Mathlib.Omega.{arith}
 use lib.ListN.{length-set}
 use Rattle.fact.proofs.Cells.{eight-sets}
@@ -79,9 +79,11 @@ same-length : tie.Need-same-length
 same-length c = simp length-set
 
 returns : tie.Need-returns
-returns c =
-    eight-sets (c .before .before .before .args .cells .now) (c .before .before .before .args .v * 8) _ _ _ _ _ _ _ _
-    ∙ rw (c .before .byte .ensures, c .number .ensures)
+returns c = (
+  eight-sets (c .before .before .before .args .cells .now) (c .before .before .before .args .v * 8) _ _ _ _ _ _ _ _
+      ∙ rw (c .before .byte .ensures, c .number .ensures),
+  subst (λ (n : ℕ). n < 2 ^ 32) (c .number .ensures) (search needs),
+)
 
 pub store-spec : {M : Type 1} → statement M
 store-spec =
