@@ -11,7 +11,7 @@ use Rattle.circuit.specs.declared.record.Fields.{Fields}
 use Rattle.circuit.specs.declared.record.Record.the-variants.{Input, Constant, Operator, Multiplexer, Register}
 use Rattle.circuit.specs.Number.{u16At}
 use Rattle.circuit.specs.Operator.{operatorOf}
-use Rattle.circuit.specs.Record.{uses, wireUses, isRegister}
+use Rattle.circuit.specs.Record.{width, uses, wireUses, isRegister}
 use Rattle.circuit.specs.Reading.{fieldsAt, inputKindOf, firstKinds, decode}
 
 module _ (f : Fields) where
@@ -90,3 +90,12 @@ register-test f =
     (λ e. rw (decode-operator f e, e))
     (λ e. rw (decode-multiplexer f e, e))
     (λ h. rw (decode-register f h) (le-leb 4 (f .kind) h))
+
+pub decode-width : (f : Fields) → width (decode f) ≡ f .width
+decode-width f =
+    by-kind (f .kind)
+    (λ e. ap width (decode-input f e))
+    (λ e. ap width (decode-constant f e))
+    (λ e. ap width (decode-operator f e))
+    (λ e. ap width (decode-multiplexer f e))
+    (λ h. ap width (decode-register f h))

@@ -74,12 +74,17 @@ circuit-record t n i h = getD-listBelow _ n i _ h
 abbrev pub Inside : Circuit → Type 0
 Inside c = (v u : ℕ) → v < length c → Uses (graph c) v u → u < length c
 
+-- every variable that record v uses is one of the n
+pub record-uses : (t : List ℕ) (n : ℕ) → checkRecords t n ≡ check.Passed → (v : ℕ) → v < n
+    → (u : ℕ) → T (member u (uses (decode (fieldsAt t (v * 16))))) → u < n
+record-uses t n e v below u m =
+    ltb-true u n (of-T _ (every-at (λ x. ltb x n) _ (T-of _ (records-valid t n e v below .variables)) u m))
+
 pub circuit-inside : (t : List ℕ) (n : ℕ) → checkRecords t n ≡ check.Passed → Inside (circuit t n)
 circuit-inside t n e v u h m =
     let below : v < n = omega (arith, circuit-length t n) in
     let used : T (member u (uses (decode (fieldsAt t (v * 16))))) = rw (circuit-record t n v below) at m in
-    let q = every-at (λ x. ltb x n) _ (T-of _ (records-valid t n e v below .variables)) u used in
-    omega (arith, circuit-length t n, ltb-true u n (of-T _ q))
+    omega (arith, circuit-length t n, record-uses t n e v below u used)
 
 pub circuit-ranked : (c : Circuit) → Inside c → NoLoop c → Ranked (graph c)
 circuit-ranked c inside none = ⊎-elim (λ r. r) (λ l. absurd (none (l .0) (l .1))) (ranked-or-loop (graph c) inside)

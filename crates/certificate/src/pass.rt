@@ -1,0 +1,95 @@
+// Passes over the facts in a certificate's bytes: the facts before any round, and the wires along their order.
+ghost use mathlib.Core.Path.{_≡_};
+ghost use Prim.Native.Nat.{ℕ, _*_, _≤_, _<_};
+ghost use lib.ListN.{length, take};
+ghost use Rattle.net.specs.Net.{wire, register, listBelow};
+ghost use Rattle.circuit.specs.declared.refusal.Check.the-variants.{Passed};
+ghost use Rattle.circuit.specs.Record.{role};
+ghost use Rattle.circuit.specs.Circuit.{circuit, recordOf};
+ghost use Rattle.circuit.specs.Checks.{checkRecords};
+ghost use Rattle.fact.specs.Rule.{rule};
+ghost use Rattle.fact.specs.Certificate.{initialFact};
+ghost use Rattle.certificate.specs.Cells.{facts, storeOf, Written};
+use circuit::record::Record;
+use circuit::table::record_at;
+use fact::Fact;
+use fact::cell::load;
+use fact::cell::store;
+use fact::input_rule;
+use fact::multiplexer_rule;
+use fact::operator_rule;
+use fact::register_rule;
+
+fn wide(v: u16) -> usize
+    ensures { λ r. ⌜ r ≡ v ⌝ }
+{
+    v as usize
+}
+
+fn initial_fact(r: Record) -> Fact
+    ensures { λ f. ⌜ f ≡ initialFact r ⌝ }
+{
+    match r {
+        Record::Input(_, kind) => input_rule(kind),
+        Record::Constant(_, _) => Fact::Open,
+        Record::Operator(_, _, _, _) => Fact::Open,
+        Record::Multiplexer(_, _, _, _) => Fact::Open,
+        Record::Register(_, _, n) => Fact::Always(n),
+    }
+}
+
+// The facts before any round; a wire's is not looked at.
+pub fn write_initial(t: &[u8], n: usize, cells: &mut [u8])
+    requires { ⌜ (n * 16 ≤ length (now t)) × (n * 8 ≤ length (now cells)) ⌝ }
+    ensures { λ _. ⌜ Written n (now (cells .entry)) (now (cells .exit)) ⌝ }
+    ensures { λ _. ⌜ facts (now (cells .exit)) n ≡ listBelow (λ v. initialFact (recordOf (circuit (now (t .entry)) n) v)) n ⌝ }
+{
+    let mut i: usize = 0;
+    while i < n {
+        store(cells, i, initial_fact(record_at(t, i)));
+        i += 1;
+    }
+}
+
+// What a wire's rule gives.
+fn wire_fact(t: &[u8], n: usize, cells: &[u8], v: usize) -> Fact
+    requires { ⌜ (n * 16 ≤ length (now t)) × (n * 8 ≤ length (now cells)) × (v < n) ⌝ }
+    requires { ⌜ checkRecords (now t) n ≡ Passed ⌝ }
+    requires { ⌜ role (recordOf (circuit (now t) n) v) ≡ wire ⌝ }
+    ensures { λ r. ⌜ r ≡ rule (circuit (now (t .entry)) n) (storeOf (now (cells .entry)) n) v ⌝ }
+{
+    let r = record_at(t, v);
+    match r {
+        Record::Input(_, _) => Fact::MARKED,
+        Record::Constant(_, value) => Fact::Always(value),
+        Record::Operator(w, op, a, b) => {
+            operator_rule(op, w, load(cells, wide(a)), load(cells, wide(b)))
+        }
+        Record::Multiplexer(w, a, b, c) => {
+            multiplexer_rule(
+                w,
+                load(cells, wide(a)),
+                load(cells, wide(b)),
+                load(cells, wide(c)),
+            )
+        }
+        Record::Register(_, _, _) => Fact::MARKED,
+    }
+}
+
+// What a register's rule gives.
+pub fn register_fact(t: &[u8], n: usize, cells: &[u8], v: usize) -> Fact
+    requires { ⌜ (n * 16 ≤ length (now t)) × (n * 8 ≤ length (now cells)) × (v < n) ⌝ }
+    requires { ⌜ checkRecords (now t) n ≡ Passed ⌝ }
+    requires { ⌜ role (recordOf (circuit (now t) n) v) ≡ register ⌝ }
+    ensures { λ r. ⌜ r ≡ rule (circuit (now (t .entry)) n) (storeOf (now (cells .entry)) n) v ⌝ }
+{
+    let r = record_at(t, v);
+    match r {
+        Record::Input(_, _) => Fact::MARKED,
+        Record::Constant(_, _) => Fact::MARKED,
+        Record::Operator(_, _, _, _) => Fact::MARKED,
+        Record::Multiplexer(_, _, _, _) => Fact::MARKED,
+        Record::Register(w, a, value) => register_rule(w, value, load(cells, wide(a))),
+    }
+}

@@ -1,0 +1,117 @@
+-- What the walk reads of a record, and what the record is: whether it is a wire, and what it uses.
+-- Assumes nothing.
+use mathlib.Core.Path.{_≡_, refl, sym, ap, _∙_}
+use mathlib.Core.Bool.{true, false}
+use mathlib.Core.List.{List, [], _∷_}
+use Prim.Native.Nat.{ℕ, zero, suc, _+_, _*_, _≤_, _<_}
+use native.Mathlib.Nat.{not-suc-le-zero, le-of-suc-le-suc}
+use native.Mathlib.Omega.{arith}
+use lib.Dec.{T, eqb, eqb→eq, eqb-refl}
+use lib.ListN.{length, getD}
+use Rattle.net.specs.Net.{wire, register}
+use Rattle.net.specs.Tests.{member}
+use Rattle.net.specs.Loop.{Uses}
+use Rattle.net.proofs.Bools.{true-false, or-cases, or-left, or-right}
+use Rattle.net.proofs.Settle.{by-role}
+use Rattle.circuit.specs.declared.record.Record.{Record}
+use Rattle.circuit.specs.declared.record.Record.the-variants.{Input, Constant, Operator, Multiplexer, Register}
+use Rattle.circuit.specs.Record.{role, uses, wireUses, isRegister}
+use Rattle.circuit.specs.Reading.{fieldsAt, decode}
+use Rattle.circuit.specs.Circuit.{Circuit, circuit, recordOf, graph}
+use Rattle.circuit.proofs.Tables.{Inside, circuit-record}
+use Rattle.schedule.specs.Walk.{last, used}
+
+-- ---- members of a list and their places
+
+member-at : (l : List ℕ) (k : ℕ) → k < length l → T (member (getD l k 0) l)
+unfolding member
+member-at [] k h = absurd (not-suc-le-zero h)
+member-at (x ∷ xs) zero h = or-left (eqb x x) (member x xs) (eqb-refl x)
+member-at (x ∷ xs) (suc k) h =
+    or-right (eqb (getD xs k 0) x) (member (getD xs k 0) xs) (member-at xs k (le-of-suc-le-suc h))
+
+member-place : (u : ℕ) (l : List ℕ) → T (member u l) → (k : ℕ) × (k < length l) × (getD l k 0 ≡ u)
+unfolding member
+member-place u [] m = absurd m
+member-place u (x ∷ xs) m =
+    or-cases (eqb u x) (member u xs) m
+    (λ e. (0, omega arith, sym (eqb→eq u x e)))
+    (λ q. let (k, h, e) = member-place u xs q in (suc k, omega arith, e))
+
+-- ---- records
+
+record-most : (r : Record) → wireUses r ≤ 4
+record-most (Input w k) = omega arith
+record-most (Constant w n) = omega arith
+record-most (Operator w op a b) = omega arith
+record-most (Multiplexer w a b c) = omega arith
+record-most (Register w a n) = omega arith
+
+record-wire : (r : Record) → 0 < wireUses r → role r ≡ wire
+record-wire (Input w k) h = absurd (not-suc-le-zero h)
+record-wire (Constant w n) h = refl
+record-wire (Operator w op a b) h = refl
+record-wire (Multiplexer w a b c) h = refl
+record-wire (Register w a n) h = absurd (not-suc-le-zero h)
+
+wire-uses : (r : Record) → role r ≡ wire → wireUses r ≡ suc (length (uses r))
+wire-uses r e = rw (e, wireUses)
+
+not-both : (r : Record) → 0 < wireUses r → isRegister r ≡ false
+not-both r h = rw (record-wire r h, isRegister)
+
+pub role-register : (r : Record) → role r ≡ register → isRegister r ≡ true
+role-register r e = rw (e, isRegister)
+
+pub register-role : (r : Record) → isRegister r ≡ true → role r ≡ register
+register-role r e =
+    by-role (role r)
+    (λ q. true-false (sym e ∙ rw (q, isRegister)))
+    (λ q. true-false (sym e ∙ rw (q, isRegister)))
+    (λ q. q)
+
+-- ---- variables of a circuit
+
+module _ (c : Circuit) (v : ℕ) where
+  pub last-most : last c v ≤ 4
+  unfolding last
+  last-most = record-most (recordOf c v)
+
+  pub last-wire : 0 < last c v → role (recordOf c v) ≡ wire
+  unfolding last
+  last-wire h = record-wire (recordOf c v) h
+
+  pub wire-last : role (recordOf c v) ≡ wire → 0 < last c v
+  unfolding last
+  wire-last e = omega (arith, wire-uses (recordOf c v) e)
+
+  pub last-no-register : 0 < last c v → isRegister (recordOf c v) ≡ false
+  unfolding last
+  last-no-register h = not-both (recordOf c v) h
+
+  pub used-uses : (k : ℕ) → k + 1 < last c v → Uses (graph c) v (used c v k)
+  unfolding last used
+  used-uses k h =
+      member-at (uses (recordOf c v)) k
+      (omega (arith, wire-uses (recordOf c v) (record-wire (recordOf c v) (omega arith))))
+
+  pub uses-used : (u : ℕ) → role (recordOf c v) ≡ wire → Uses (graph c) v u
+      → (k : ℕ) × (k + 1 < last c v) × (used c v k ≡ u)
+  unfolding last used
+  uses-used u e m =
+      let (k, h, q) = member-place u (uses (recordOf c v)) m in
+      (k, omega (arith, wire-uses (recordOf c v) e), q)
+
+  pub used-below : (n k : ℕ) → length c ≡ n → Inside c → v < n → k + 1 < last c v → used c v k < n
+  used-below n k len inside h l = omega (arith, inside v (used c v k) (omega arith) (used-uses k l))
+
+-- ---- variables of a table
+
+module _ (t : List ℕ) (n v : ℕ) (h : v < n) where
+  pub last-decode : last (circuit t n) v ≡ wireUses (decode (fieldsAt t (v * 16)))
+  unfolding last
+  last-decode = ap wireUses (circuit-record t n v h)
+
+  pub used-decode : (k : ℕ) → used (circuit t n) v k ≡ getD (uses (decode (fieldsAt t (v * 16)))) k 0
+  unfolding used
+  used-decode k = ap (λ (r : Record). getD (uses r) k 0) (circuit-record t n v h)

@@ -1,0 +1,3 @@
+pub mod Schedule
+pub mod Scratch
+pub mod Walk
