@@ -59,6 +59,12 @@ module _ {n : ℕ} {entry cells : List ℕ} (w : Written n entry cells) where
       ap (drop (n * 8)) (w .bytes)
       ∙ drop-at (flatMap factBytes (facts cells n)) (drop (n * 8) entry) (n * 8) (rw (flatMap-length (facts cells n), facts-length))
 
+  pub written-length : n * 8 ≤ length entry → length cells ≡ length entry
+  written-length h =
+      ap length (w .bytes)
+      ∙ length-append (flatMap factBytes (facts cells n)) (drop (n * 8) entry)
+      ∙ rw (flatMap-length (facts cells n), facts-length, length-drop) (omega arith)
+
   -- seen from itself
   pub written-self : Written n cells cells
   written-self = record { bytes = rw written-past (w .bytes); fits = w .fits }

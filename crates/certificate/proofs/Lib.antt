@@ -1,2 +1,4 @@
 pub mod Cells
 pub mod Rules
+pub mod Settling
+pub mod Staging

@@ -5,10 +5,12 @@ ghost use lib.ListN.{length, take};
 ghost use Rattle.net.specs.Net.{wire, register, listBelow};
 ghost use Rattle.circuit.specs.declared.refusal.Check.the-variants.{Passed};
 ghost use Rattle.circuit.specs.Record.{role};
-ghost use Rattle.circuit.specs.Circuit.{circuit, recordOf};
+ghost use Rattle.circuit.specs.Circuit.{circuit, recordOf, graph};
 ghost use Rattle.circuit.specs.Checks.{checkRecords};
 ghost use Rattle.fact.specs.Rule.{rule};
 ghost use Rattle.fact.specs.Certificate.{initialFact};
+ghost use Rattle.schedule.specs.Schedule.{Ordered};
+ghost use Rattle.net.specs.Net as net;
 ghost use Rattle.certificate.specs.Cells.{facts, storeOf, Written};
 use circuit::record::Record;
 use circuit::table::record_at;
@@ -20,7 +22,7 @@ use fact::multiplexer_rule;
 use fact::operator_rule;
 use fact::register_rule;
 
-fn wide(v: u16) -> usize
+pub fn wide(v: u16) -> usize
     ensures { λ r. ⌜ r ≡ v ⌝ }
 {
     v as usize
@@ -91,5 +93,24 @@ pub fn register_fact(t: &[u8], n: usize, cells: &[u8], v: usize) -> Fact
         Record::Operator(_, _, _, _) => Fact::MARKED,
         Record::Multiplexer(_, _, _, _) => Fact::MARKED,
         Record::Register(w, a, value) => register_rule(w, value, load(cells, wide(a))),
+    }
+}
+
+// The wires take their facts, one after the other along their order.
+pub fn settle(t: &[u8], n: usize, scratch: &[u16], wires: usize, cells: &mut [u8])
+    requires { ⌜ (n * 16 ≤ length (now t)) × (n * 8 ≤ length (now cells)) × (wires ≤ length (now scratch)) ⌝ }
+    requires { ⌜ checkRecords (now t) n ≡ Passed ⌝ }
+    requires { ⌜ Ordered (circuit (now t) n) (take wires (now scratch)) ⌝ }
+    requires { ⌜ Written n (now cells) (now cells) ⌝ }
+    ensures { λ _. ⌜ Written n (now (cells .entry)) (now (cells .exit)) ⌝ }
+    ensures { λ _. ⌜ ((v : ℕ) → v < n → storeOf (now (cells .exit)) n v
+        ≡ net.settle (graph (circuit (now (t .entry)) n)) (rule (circuit (now (t .entry)) n)) (storeOf (now (cells .entry)) n) v) ⌝ }
+{
+    let mut i: usize = 0;
+    while i < wires {
+        let v = wide(scratch[i]);
+        let f = wire_fact(t, n, cells, v);
+        store(cells, v, f);
+        i += 1;
     }
 }

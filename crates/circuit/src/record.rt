@@ -8,6 +8,7 @@ ghost use lib.ListN.{length};
 ghost use Rattle.net.specs.Tests.{every};
 ghost use Rattle.circuit.specs.Record.{uses};
 ghost use Rattle.circuit.specs.Operator.{operatorOf};
+ghost use Rattle.circuit.specs.Machine.{initial};
 ghost use Rattle.circuit.specs.Reading as reading;
 use crate::number::u16_at;
 use crate::number::u32_at;
@@ -275,4 +276,21 @@ pub fn read_record(f: Fields, n: usize) -> ReadRecord
         return ReadRecord::Refused(Ground::ValueTooWide);
     }
     ReadRecord::Read(r)
+}
+
+// What an input or a register holds at power-on, 0 for a wire.
+pub fn initial_value(r: Record) -> u32
+    ensures { λ n. ⌜ n ≡ initial r ⌝ }
+{
+    match r {
+        Record::Input(_, kind) => match kind {
+            InputKind::Fixed(n) => n,
+            InputKind::Free => 0,
+            InputKind::Secret => 0,
+        },
+        Record::Constant(_, _) => 0,
+        Record::Operator(_, _, _, _) => 0,
+        Record::Multiplexer(_, _, _, _) => 0,
+        Record::Register(_, _, n) => n,
+    }
 }

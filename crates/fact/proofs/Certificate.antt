@@ -20,7 +20,7 @@ use Rattle.net.specs.Loop.{Uses}
 use Rattle.net.specs.Machine as machine
 use Rattle.net.proofs.Bools.{member-1, member-2, member-3}
 use Rattle.net.proofs.Sums.{sumRegisters-scale}
-use Rattle.net.proofs.Settle.{by-role, Ranked}
+use Rattle.net.proofs.Settle.{Ranked, Local}
 use Rattle.net.proofs.Rounds.{Monotone, Heights, Counts, count-few, count-counts, stopped-fixed, fixed-closed, rounds-below}
 use Rattle.net.proofs.TwoRuns.{Sound, two-runs}
 use Rattle.circuit.specs.declared.record.InputKind.{InputKind}
@@ -123,13 +123,18 @@ poke-claims Secret x y allowed d = nothing
 -- ---- the circuit meets the premises
 
 module _ (c : Circuit) where
+  -- a wire's fact depends on what its record uses, and on nothing else
+  pub rules-local : Local (graph c) (rule c)
+  unfolding rule
+  rules-local s t v below e h = rule-local (recordOf c v) s t h
+
   monotone : Monotone (graph c) _⊑_ (rule c) (λ v. initialFact (recordOf c v))
   unfolding rule
   monotone =
       record {
         reflexive = λ x. itself;
         transitive = λ x y z h k. ⊑-trans h k;
-        local = λ s t v below e h. rule-local (recordOf c v) s t h;
+        local = rules-local;
         wires = λ s t v below e h. rule-mono (recordOf c v) s t h;
         registers = λ s t v below e h own. rule-mono (recordOf c v) s t h;
         inputs = λ s v below e. rule-input (recordOf c v) s e;

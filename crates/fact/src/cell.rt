@@ -7,7 +7,8 @@ ghost use Rattle.fact.specs.Fact.{factByte, factNumber, factBytes, factA
 use crate::Fact;
 use circuit::number::u32_at;
 
-fn byte(f: Fact) -> u8
+// Byte 0 of a fact.
+pub fn byte(f: Fact) -> u8
     ensures { λ r. ⌜ r ≡ factByte f ⌝ }
 {
     match f {

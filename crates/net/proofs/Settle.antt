@@ -31,6 +31,10 @@ module _ {A : Type 0} (g : Graph) (f : (ℕ → A) → ℕ → A) (s : ℕ → A
   unfolding step
   step-input e = rw (e, step)
 
+  pub step-wire : g .role v ≡ wire → step g f s v ≡ s v
+  unfolding step
+  step-wire e = rw (e, step)
+
   pub step-register : g .role v ≡ register → step g f s v ≡ f s v
   unfolding step
   step-register e = rw (e, step)
