@@ -10,10 +10,13 @@ ghost use Rattle.circuit.specs.Circuit.{circuit, graph};
 ghost use Rattle.circuit.specs.Checks.{checkRecords};
 ghost use Rattle.fact.specs.Fact as facts;
 ghost use Rattle.fact.specs.Rule.{rule};
+ghost use Rattle.fact.specs.Certificate.{initialStore, rounds, certificate};
 ghost use Rattle.schedule.specs.Schedule.{registerList};
 ghost use Rattle.certificate.specs.Cells.{storeOf, Written};
+ghost use Rattle.certificate.specs.Ready.{Ready};
 ghost use Rattle.certificate.specs.Staging.{Listed, StagedTo, KeptAround, staysAt, stagedFact};
 use crate::pass::register_fact;
+use crate::pass::settle;
 use crate::pass::wide;
 use circuit::record::Record;
 use circuit::record::initial_value;
@@ -121,4 +124,33 @@ pub fn commit(t: &[u8], n: usize, scratch: &[u16], first: usize, registers: usiz
         store(cells, v, f);
         j += 1;
     }
+}
+
+// The rounds, until one changes no register. How many come before that one.
+pub fn run_rounds(
+    t: &[u8],
+    n: usize,
+    scratch: &mut [u16],
+    wires: usize,
+    registers: usize,
+    cells: &mut [u8],
+) -> u32
+    requires { ⌜ Ready (now t) n (now scratch) (now cells) wires registers ⌝ }
+    requires { ⌜ ((v : ℕ) → v < n → storeOf (now cells) n v ≡ initialStore (circuit (now t) n) v) ⌝ }
+    ensures { λ _. ⌜ KeptAround n (now (scratch .entry)) (now (scratch .exit)) ⌝ }
+    ensures { λ _. ⌜ Written n (now (cells .entry)) (now (cells .exit)) ⌝ }
+    ensures { λ _. ⌜ ((v : ℕ) → v < n → storeOf (now (cells .exit)) n v ≡ certificate (circuit (now (t .entry)) n) v) ⌝ }
+    ensures { λ r. ⌜ r ≡ rounds (circuit (now (t .entry)) n) ⌝ }
+{
+    let mut count: u32 = 0;
+    let answer = loop {
+        let changed = stage(t, n, cells, scratch, wires, registers);
+        if !changed {
+            break count;
+        }
+        commit(t, n, scratch, wires, registers, cells);
+        settle(t, n, scratch, wires, cells);
+        count += 1;
+    };
+    answer
 }

@@ -128,6 +128,12 @@ module _ (c : Circuit) where
   unfolding rule
   rules-local s t v below e h = rule-local (recordOf c v) s t h
 
+  -- stores that agree on the circuit's variables give every variable the same fact
+  pub rules-agree : Inside c → (s t : ℕ → Fact) → ((u : ℕ) → u < length c → s u ≡ t u)
+      → (v : ℕ) → v < length c → rule c s v ≡ rule c t v
+  unfolding rule
+  rules-agree inside s t h v below = rule-local (recordOf c v) s t (λ u m. h u (inside v u below m))
+
   monotone : Monotone (graph c) _⊑_ (rule c) (λ v. initialFact (recordOf c v))
   unfolding rule
   monotone =

@@ -1,0 +1,123 @@
+-- The rounds on the certificate's bytes are the rounds of the definition: the store after each, and when they stop.
+-- Assumes nothing.
+use mathlib.Core.Path.{_≡_, refl, sym, ap, _∙_, subst}
+use mathlib.Core.Bool.{Bool, true, false, not}
+use mathlib.Core.List.{List}
+use Prim.Native.Nat.{ℕ, zero, suc, _+_, _*_, _<_, _≤_}
+use native.Mathlib.Nat.{le-refl}
+use native.Mathlib.Numerals.{add-one}
+use native.Mathlib.Decide.{decLt}
+use native.Mathlib.Omega.{arith}
+use borrow.Author.Tests.{not-false}
+use lib.Dec.{T}
+use lib.ListN.{length, getD, take}
+use lib.Seq.{ext-getD, getD-take, length-take-le}
+use Rattle.net.specs.Tests.{allBelow}
+use Rattle.net.specs.Net.{input, wire, register, settle, step, round, after, stopped}
+use Rattle.net.proofs.Bools.{T-of, of-T, true-false, all-at, all-of}
+use Rattle.net.proofs.Settle.{by-role, Ranked, step-input, step-wire, step-register, settle-input, settle-register, settle-settled, settle-unique}
+use Rattle.net.proofs.Rounds.{Counts, after-suc}
+use Rattle.circuit.specs.Record.{role}
+use Rattle.circuit.specs.Circuit.{Circuit, circuit, recordOf, graph, NoLoop}
+use Rattle.circuit.proofs.Tables.{Inside, circuit-length, circuit-inside, circuit-ranked}
+use Rattle.fact.specs.declared.Fact.{Fact}
+use Rattle.fact.specs.Fact.{same}
+use Rattle.fact.specs.Rule.{rule}
+use Rattle.fact.specs.Certificate.{initialStore, rounds, certificate}
+use Rattle.fact.proofs.Order.{same-eq, same-refl}
+use Rattle.fact.proofs.Certificate.{rules-local, rules-agree, rounds-counted}
+use Rattle.schedule.specs.Schedule.{registerList, Ordered}
+use Rattle.schedule.proofs.Registers.{registerList-register, registerList-all}
+use Rattle.schedule.proofs.Orders.{ordered-no-loop}
+use Rattle.certificate.specs.Cells.{storeOf, Written}
+use Rattle.certificate.specs.Staging.{KeptAround, staysAt}
+use Rattle.certificate.specs.Ready.{Ready}
+
+-- two stores agree on the circuit's variables
+abbrev Agree : Circuit → (ℕ → Fact) → (ℕ → Fact) → Type 0
+Agree c s t = (v : ℕ) → v < length c → s v ≡ t v
+
+module _ (c : Circuit) (inside : Inside c) (noLoop : NoLoop c) where
+  ranked : Ranked (graph c)
+  ranked = circuit-ranked c inside noLoop
+
+  -- ---- stores that agree settle and step alike
+
+  pub settle-agree : (s t : ℕ → Fact) → Agree c s t → Agree c (settle (graph c) (rule c) s) (settle (graph c) (rule c) t)
+  settle-agree s t h =
+      settle-unique ranked (rule c) (rules-local c) t (settle (graph c) (rule c) s) (settle-settled ranked (rule c) (rules-local c) s)
+      (λ v below e. settle-input (graph c) (rule c) s v e ∙ h v below)
+      (λ v below e. settle-register (graph c) (rule c) s v e ∙ h v below)
+
+  step-agree : (s t : ℕ → Fact) → Agree c s t → Agree c (step (graph c) (rule c) s) (step (graph c) (rule c) t)
+  step-agree s t h v below =
+      by-role (role (recordOf c v))
+      (λ e. step-input (graph c) (rule c) s v e ∙ h v below ∙ sym (step-input (graph c) (rule c) t v e))
+      (λ e. step-wire (graph c) (rule c) s v e ∙ h v below ∙ sym (step-wire (graph c) (rule c) t v e))
+      (λ e. step-register (graph c) (rule c) s v e ∙ rules-agree c inside s t h v below ∙ sym (step-register (graph c) (rule c) t v e))
+
+  round-register : (s : ℕ → Fact) (v : ℕ) → role (recordOf c v) ≡ register → round (graph c) (rule c) s v ≡ rule c s v
+  unfolding round
+  round-register s v e = settle-register (graph c) (rule c) (step (graph c) (rule c) s) v e ∙ step-register (graph c) (rule c) s v e
+
+  -- ---- one round more
+
+  pub next-round : (k : ℕ) (s committed settled : ℕ → Fact) → Agree c s (after (graph c) (rule c) k (initialStore c))
+      → Agree c committed (step (graph c) (rule c) s) → Agree c settled (settle (graph c) (rule c) committed)
+      → Agree c settled (after (graph c) (rule c) (k + 1) (initialStore c))
+  unfolding round
+  next-round k s committed settled h stepped done v below =
+      done v below
+      ∙ settle-agree committed (step (graph c) (rule c) (after (graph c) (rule c) k (initialStore c)))
+      (λ u l. stepped u l ∙ step-agree s (after (graph c) (rule c) k (initialStore c)) h u l) v below
+      ∙ ap (λ (f : ℕ → Fact). f v) (sym (after-suc (graph c) (rule c) k (initialStore c)))
+      ∙ ap (λ (j : ℕ). after (graph c) (rule c) j (initialStore c) v) (sym (add-one k))
+
+  -- ---- when they stop
+
+  module _ (k : ℕ) (s : ℕ → Fact) (h : Agree c s (after (graph c) (rule c) k (initialStore c))) (few : k ≤ rounds c) where
+    counted : Counts (graph c) (rule c) (initialStore c) (rounds c)
+    counted = rounds-counted c inside noLoop
+
+    -- a register stays by the test exactly where the definition's round leaves it
+    register-fact : (v : ℕ) → v < length c → role (recordOf c v) ≡ register
+        → rule c s v ≡ round (graph c) (rule c) (after (graph c) (rule c) k (initialStore c)) v
+    register-fact v below e =
+        rules-agree c inside s (after (graph c) (rule c) k (initialStore c)) h v below
+        ∙ sym (round-register (after (graph c) (rule c) k (initialStore c)) v e)
+
+    pub stopped-here : allBelow (staysAt c s) (length (registerList c)) ≡ true → k ≡ rounds c
+    stopped-here e = elim (decLt k (rounds c)) [ yes l ↦ absurd (changes l) | no l ↦ omega arith ]
+      where
+        changes : k < rounds c → ⊥
+        changes l =
+            let (v, below, is-register, differs) = counted .before k l in
+            let (j, lj, q) = registerList-all c v below is-register in
+            let stays : rule c s v ≡ s v =
+            subst (λ (u : ℕ). rule c s u ≡ s u) q
+            (same-eq _ _ (of-T _ (all-at (staysAt c s) (length (registerList c)) (T-of _ e) j lj))) in
+            differs (sym (register-fact v below is-register) ∙ stays ∙ h v below)
+
+    pub not-stopped : allBelow (staysAt c s) (length (registerList c)) ≡ false → k < rounds c
+    not-stopped e = elim (decLt k (rounds c)) [ yes l ↦ l | no l ↦ absurd (still (omega arith)) ]
+      where
+        still : k ≡ rounds c → ⊥
+        still q =
+            true-false (sym (of-T _ (all-of (staysAt c s) (length (registerList c)) (λ j l. stays j l))) ∙ e)
+          where
+            stays : (j : ℕ) → j < length (registerList c) → T (staysAt c s j)
+            stays j l =
+                let (below, is-register) = registerList-register c j l in
+                let v = getD (registerList c) j 0 in
+                let same-fact : rule c s v ≡ s v =
+                register-fact v below is-register
+                ∙ subst (λ (i : ℕ). round (graph c) (rule c) (after (graph c) (rule c) i (initialStore c)) v ≡ after (graph c) (rule c) i (initialStore c) v)
+                (sym q) (counted .stops v below is-register)
+                ∙ sym (h v below) in
+                T-of _ (ap (λ (f : Fact). same f (s v)) same-fact ∙ same-refl (s v))
+
+  -- the store in which they stop is the certificate
+  pub certificate-reached : (k : ℕ) (s : ℕ → Fact) → Agree c s (after (graph c) (rule c) k (initialStore c)) → k ≡ rounds c
+      → Agree c s (certificate c)
+  unfolding certificate stopped rounds
+  certificate-reached k s h e v below = h v below ∙ ap (λ (j : ℕ). after (graph c) (rule c) j (initialStore c) v) e
