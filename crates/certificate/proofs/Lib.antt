@@ -5,3 +5,4 @@ pub mod Staging
 pub mod Rounds
 pub mod Ready
 pub mod Running
+pub mod Finish

@@ -13,10 +13,10 @@ use lib.Dec.{T}
 use lib.ListN.{length, getD, take}
 use lib.Seq.{ext-getD, getD-take, length-take-le}
 use Rattle.net.specs.Tests.{allBelow}
-use Rattle.net.specs.Net.{input, wire, register, settle, step, round, after, stopped}
+use Rattle.net.specs.Net.{input, wire, register, settle, step, round, after, stopped, Counts}
 use Rattle.net.proofs.Bools.{T-of, of-T, true-false, all-at, all-of}
 use Rattle.net.proofs.Settle.{by-role, Ranked, step-input, step-wire, step-register, settle-input, settle-register, settle-settled, settle-unique}
-use Rattle.net.proofs.Rounds.{Counts, after-suc}
+use Rattle.net.proofs.Rounds.{after-suc}
 use Rattle.circuit.specs.Record.{role}
 use Rattle.circuit.specs.Circuit.{Circuit, circuit, recordOf, graph, NoLoop}
 use Rattle.circuit.proofs.Tables.{Inside, circuit-length, circuit-inside, circuit-ranked}

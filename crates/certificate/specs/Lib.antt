@@ -1,3 +1,4 @@
 pub mod Cells
 pub mod Staging
 pub mod Ready
+pub mod Promise

@@ -1,3 +1,91 @@
 // The certifying call on lent buffers: grounds 1 to 11, the rounds, the certificate.
+ghost use mathlib.Core.Path.{_≡_};
+ghost use mathlib.Core.List.{_++_, flatMap};
+ghost use Prim.Native.Nat.{_+_, _*_, _/_, _≤_};
+ghost use lib.ListN.{length, take, drop, replicate};
+ghost use Rattle.net.specs.Net.{listBelow};
+ghost use Rattle.circuit.specs.declared.refusal.Check.the-variants.{Passed};
+ghost use Rattle.circuit.specs.Circuit.{circuit};
+ghost use Rattle.circuit.specs.Checks.{checkRecords};
+ghost use Rattle.fact.specs.Fact.{factBytes};
+ghost use Rattle.fact.specs.Certificate as definition;
+ghost use Rattle.schedule.specs.Schedule.{registerList, Ordered};
+ghost use Rattle.certificate.specs.Staging.{Listed};
+ghost use Rattle.certificate.specs.Promise.{checkCall, Certifies};
+use crate::pass::settle;
+use crate::pass::write_initial;
+use crate::round::run_rounds;
+use circuit::checks::check_length;
+use circuit::checks::check_output;
+use circuit::checks::check_records;
+use circuit::checks::check_scratch;
+use circuit::refusal::Check;
+use circuit::refusal::Ground;
+use schedule::Outcome;
+use schedule::schedule;
+
 mod pass;
 mod round;
+
+// The number of rounds of an accepted table; or the ground on which it is turned down, with its place.
+pub enum Certified {
+    Accepted(u32),
+    Refused(Ground, usize),
+}
+
+// Grounds 1 to 10.
+fn check_call(t: &[u8], output: usize, scratch: usize) -> Check
+    ensures { λ r. ⌜ r ≡ checkCall (now (t .entry)) output scratch ⌝ }
+{
+    let whole = check_length(t.len());
+    let Check::Passed = whole else {
+        return whole;
+    };
+    let n = t.len() / 16;
+    let certificate = check_output(output, n * 8);
+    let Check::Passed = certificate else {
+        return certificate;
+    };
+    let room = check_scratch(scratch, n * 4);
+    let Check::Passed = room else {
+        return room;
+    };
+    check_records(t, n)
+}
+
+fn clear_part(scratch: &mut [u16], part: usize)
+    requires { ⌜ part ≤ length (now scratch) ⌝ }
+    ensures { λ _. ⌜ now (scratch .exit) ≡ replicate part 0 ++ drop part (now (scratch .entry)) ⌝ }
+{
+    let mut i: usize = 0;
+    while i < part {
+        scratch[i] = 0;
+        i += 1;
+    }
+}
+
+// The certificate of a table whose order stands in the scratch. How many rounds it took.
+fn certify_ordered(
+    t: &[u8],
+    n: usize,
+    scratch: &mut [u16],
+    wires: usize,
+    registers: usize,
+    cells: &mut [u8],
+) -> u32
+    requires { ⌜ (n * 16 ≤ length (now t)) × (n ≤ 4096) × (n * 8 ≤ length (now cells)) × (n * 4 ≤ length (now scratch)) ⌝ }
+    requires { ⌜ (wires + registers ≤ n) × (registers ≡ length (registerList (circuit (now t) n))) ⌝ }
+    requires { ⌜ checkRecords (now t) n ≡ Passed ⌝ }
+    requires { ⌜ Ordered (circuit (now t) n) (take wires (now scratch)) ⌝ }
+    requires { ⌜ Listed (circuit (now t) n) (now scratch) wires ⌝ }
+    ensures { λ r. ⌜ r ≡ definition.rounds (circuit (now (t .entry)) n) ⌝ }
+    ensures { λ _. ⌜ now (cells .exit)
+        ≡ flatMap factBytes (listBelow (definition.certificate (circuit (now (t .entry)) n)) n) ++ drop (n * 8) (now (cells .entry)) ⌝ }
+    ensures { λ _. ⌜ now (scratch .exit) ≡ replicate (n * 4) 0 ++ drop (n * 4) (now (scratch .entry)) ⌝ }
+{
+    write_initial(t, n, cells);
+    settle(t, n, scratch, wires, cells);
+    let rounds = run_rounds(t, n, scratch, wires, registers, cells);
+    clear_part(scratch, n * 4);
+    rounds
+}

@@ -15,13 +15,13 @@ use lib.Dec.{T, eqb}
 use lib.ListN.{length}
 use Rattle.net.specs.declared.Stimulus.{Stimulus}
 use Rattle.net.specs.Tests.{member}
-use Rattle.net.specs.Net.{input, wire, register, sumBelow, sumRegisters, settle, count, stopped, Fixed, Closed, Least}
+use Rattle.net.specs.Net.{input, wire, register, sumBelow, sumRegisters, settle, count, stopped, Fixed, Counts}
 use Rattle.net.specs.Loop.{Uses}
 use Rattle.net.specs.Machine as machine
 use Rattle.net.proofs.Bools.{member-1, member-2, member-3}
 use Rattle.net.proofs.Sums.{sumRegisters-scale}
 use Rattle.net.proofs.Settle.{Ranked, Local}
-use Rattle.net.proofs.Rounds.{Monotone, Heights, Counts, count-few, count-counts, stopped-fixed, fixed-closed, rounds-below}
+use Rattle.net.proofs.Rounds.{Monotone, Heights, count-few, count-counts, stopped-fixed, fixed-closed, rounds-below}
 use Rattle.net.proofs.TwoRuns.{Sound, two-runs}
 use Rattle.circuit.specs.declared.record.InputKind.{InputKind}
 use Rattle.circuit.specs.declared.record.InputKind.the-variants.{Fixed as FixedTo, Free, Secret}

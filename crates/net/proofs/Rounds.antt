@@ -9,7 +9,7 @@ use native.Mathlib.Nat.{not-suc-le-zero, le-refl, le-of-eq}
 use native.Mathlib.Omega.{arith}
 use lib.Dec.{T}
 use Rattle.net.specs.Tests.{allBelow}
-use Rattle.net.specs.Net.{Graph, input, wire, register, settle, step, round, after, unchanged, still, count, stopped, sumRegisters, Settled, Fixed, Closed}
+use Rattle.net.specs.Net.{Graph, input, wire, register, settle, step, round, after, unchanged, still, count, stopped, sumRegisters, Settled, Fixed, Closed, Still, Changing, Counts}
 use Rattle.net.specs.Loop.{Uses}
 use Rattle.net.proofs.Bools.{T-of, of-T, true-false, all-at, fails-below}
 use Rattle.net.proofs.Sums.{sum-mono, sum-strict}
@@ -41,19 +41,6 @@ pub record Heights {A : Type 0} (g : Graph) (le : A → A → Type 0) (f : (ℕ 
 -- ---- what the count is, for any net
 
 module _ {A : Type 0} (g : Graph) (f : (ℕ → A) → ℕ → A) where
-  -- the next round changes no register
-  abbrev pub Still : (ℕ → A) → Type 0
-  Still s = (v : ℕ) → v < g .size → g .role v ≡ register → round g f s v ≡ s v
-
-  -- the next round changes a register
-  abbrev pub Changing : (ℕ → A) → Type 0
-  Changing s = (v : ℕ) × (v < g .size) × (g .role v ≡ register) × (round g f s v ≡ s v → ⊥)
-
-  -- k is the number of rounds, from s on, before the first that changes no register
-  pub record Counts (s : ℕ → A) (k : ℕ) : Type 0 where
-    pub stops : Still (after g f k s)
-    pub before : (j : ℕ) → j < k → Changing (after g f j s)
-
   -- one more round, at the end
   pub after-suc : (k : ℕ) (s : ℕ → A) → after g f (suc k) s ≡ round g f (after g f k s)
   unfolding after

@@ -104,3 +104,16 @@ module _ {A : Type 0} (g : Graph) (f : (ℕ → A) → ℕ → A) where
   -- document 01's least closed store: closed, and at every variable at or below every closed one
   abbrev pub Least : (A → A → Type 0) → (ℕ → A) → Type 0
   Least le s = Closed le s × ((c : ℕ → A) → Closed le c → (v : ℕ) → v < g .size → le (s v) (c v))
+
+  -- the next round changes no register
+  abbrev pub Still : (ℕ → A) → Type 0
+  Still s = (v : ℕ) → v < g .size → g .role v ≡ register → round s v ≡ s v
+
+  -- the next round changes a register
+  abbrev pub Changing : (ℕ → A) → Type 0
+  Changing s = (v : ℕ) × (v < g .size) × (g .role v ≡ register) × (round s v ≡ s v → ⊥)
+
+  -- document 01's count, as a property of k: the round after k changes no register, and every earlier one changes some
+  pub record Counts (s : ℕ → A) (k : ℕ) : Type 0 where
+    pub stops : Still (after k s)
+    pub before : (j : ℕ) → j < k → Changing (after j s)

@@ -1,0 +1,86 @@
+-- The facts before any round, the wires along their order, the rounds, and the scratch cleared.
+-- Assumes nothing.
+use mathlib.Core.Path.{ap, _∙_}
+use mathlib.Core.List.{List, _++_}
+use Prim.Native.Nat.{ℕ, _*_}
+use native.Mathlib.Omega.{arith}
+use lib.ListN.{replicate}
+use Rattle.circuit.specs.Circuit.{circuit}
+use Rattle.circuit.proofs.Tables.{circuit-inside}
+use Rattle.schedule.proofs.Orders.{ordered-no-loop}
+use Rattle.certificate.proofs.Cells.{written-length, written-self}
+use Rattle.certificate.proofs.Ready.{written-trans}
+use Rattle.certificate.proofs.Finish.{initial-settled, certificate-written, kept-past}
+use borrow.Author.Needs.{needs}
+use Rattle.certificate.proofs.certify_ordered.Statement.{statement}
+use Rattle.certificate.proofs.certify_ordered.Tie as tie
+
+write-initial-requires : tie.Need-write-initial-requires
+write-initial-requires c κs = search needs
+
+settle-requires : tie.Need-settle-requires
+settle-requires c κs =
+    let p = c .before .before .before .before .before .before .before .before .before .pre in
+    let w = c .before .before .before .before .write-initial .ensures .0 in
+    ((p .0 .0, omega (arith, written-length w (p .0 .2)), omega arith), (p .1 .1 .0, (p .1 .1 .1 .0, written-self w)))
+
+run-rounds-requires : tie.Need-run-rounds-requires
+run-rounds-requires c κs =
+    let x = c .before .before .before .before .before .before .before .before .before .before .before .before .before .before .args in
+    let p = c .before .before .before .before .before .before .before .before .before .before .before .before .before .before .pre in
+    let first = c .before .before .before .before .before .before .before .before .before .write-initial .ensures in
+    let settled = c .before .before .before .before .settle .ensures in
+    let C = circuit (x .t .now) (x .n) in (
+      record {
+        table = p .0 .0;
+        small = p .0 .1;
+        output = omega (arith, written-length (written-trans (first .0) (settled .0)) (p .0 .2));
+        room = omega arith;
+        fits = p .1 .0 .0;
+        all-registers = p .1 .0 .1;
+        valid = p .1 .1 .0;
+        order = p .1 .1 .1 .0;
+        listed = p .1 .1 .1 .1;
+        written = written-self (settled .0);
+      },
+      initial-settled (x .t .now) (x .n) (circuit-inside (x .t .now) (x .n) (p .1 .1 .0)) (ordered-no-loop C _ (p .1 .1 .1 .0)) (c .before .before .before .before .before .before .before .before .before .write-initial .last .1 .1 .0) (c .before .before .before .before .settle .last .1 .1 .1 .1 .0) (first .1) (settled .1),
+    )
+
+mul-clear-part : tie.Need-mul-clear-part
+mul-clear-part c = search needs
+
+clear-part-requires : tie.Need-clear-part-requires
+clear-part-requires c κs = search needs
+
+same-length : tie.Need-same-length
+same-length c = search needs
+
+same-length-2 : tie.Need-same-length-2
+same-length-2 c = search needs
+
+returns : tie.Need-returns
+returns c =
+    let x = c .before .before .before .before .before .before .before .before .before .before .before .before .before .before .before .before .before .before .before .before .before .before .before .args in
+    let first = c .before .before .before .before .before .before .before .before .before .before .before .before .before .before .before .before .before .before .write-initial .ensures in
+    let settled = c .before .before .before .before .before .before .before .before .before .before .before .before .before .settle .ensures in
+    let run = c .before .before .before .before .before .before .before .before .run-rounds .ensures in (
+      run .1 .1 .1,
+      (
+        certificate-written (x .t .now) (x .n) (x .cells .now) _ (written-trans (first .0) (written-trans (settled .0) (run .1 .0))) (run .1 .1 .0),
+        c .before .before .clear-part .ensures
+            ∙ ap (λ (l : List ℕ). replicate (x .n * 4) 0 ++ l) (kept-past (x .n) (x .n * 4) (x .scratch .now) _ (run .0) (omega arith)),
+      ),
+    )
+
+pub certify-ordered-spec : {M : Type 1} → statement M
+certify-ordered-spec =
+    tie.close
+    (tie.spec
+    write-initial-requires
+    settle-requires
+    run-rounds-requires
+    mul-clear-part
+    clear-part-requires
+    same-length
+    same-length-2
+    returns)
