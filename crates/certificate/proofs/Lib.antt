@@ -6,3 +6,4 @@ pub mod Rounds
 pub mod Ready
 pub mod Running
 pub mod Finish
+pub mod Promise

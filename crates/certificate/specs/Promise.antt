@@ -36,11 +36,18 @@ pub record Buffers : Type 0 where
   pub certificate-exit : List ℕ
   pub scratch-exit : List ℕ
 
-module _ (b : Buffers) where
-  -- the number of records
-  abbrev n : ℕ
-  n = length (b .table) / 16
+abbrev pub buffers : List ℕ → List ℕ → List ℕ → List ℕ → List ℕ → Buffers
+buffers t certificate scratch certificate′ scratch′ =
+    record {
+      table = t;
+      certificate = certificate;
+      scratch = scratch;
+      certificate-exit = certificate′;
+      scratch-exit = scratch′;
+    }
 
+-- for a table of n records
+module _ (n : ℕ) (b : Buffers) where
   abbrev c : Circuit
   c = circuit (b .table) n
 
@@ -75,6 +82,10 @@ module _ (b : Buffers) where
     pub scratch : b .scratch-exit ≡ replicate (n * 4) 0 ++ drop (n * 4) (b .scratch)
 
   -- what holds of an answer
-  abbrev pub Certifies : Certified → Type 0
-  Certifies (certified.Accepted k) = Certificate k
-  Certifies (certified.Refused g place) = TurnedDown g place ⊎ ((g ≡ ground.Loop) × LoopShown place)
+  abbrev pub CertifiesAt : Certified → Type 0
+  CertifiesAt (certified.Accepted k) = Certificate k
+  CertifiesAt (certified.Refused g place) = TurnedDown g place ⊎ ((g ≡ ground.Loop) × LoopShown place)
+
+-- the promise: what holds of the buffers and the answer
+abbrev pub Certifies : Buffers → Certified → Type 0
+Certifies b r = CertifiesAt (length (b .table) / 16) b r

@@ -1,17 +1,17 @@
 // The certifying call on lent buffers: grounds 1 to 11, the rounds, the certificate.
 ghost use mathlib.Core.Path.{_≡_};
 ghost use mathlib.Core.List.{_++_, flatMap};
-ghost use Prim.Native.Nat.{_+_, _*_, _/_, _≤_};
+ghost use Prim.Native.Nat.{ℕ, _+_, _*_, _/_, _≤_, _<_};
 ghost use lib.ListN.{length, take, drop, replicate};
 ghost use Rattle.net.specs.Net.{listBelow};
 ghost use Rattle.circuit.specs.declared.refusal.Check.the-variants.{Passed};
 ghost use Rattle.circuit.specs.Circuit.{circuit};
 ghost use Rattle.circuit.specs.Checks.{checkRecords};
-ghost use Rattle.fact.specs.Fact.{factBytes};
+ghost use Rattle.fact.specs.Fact.{factBytes, factAt};
 ghost use Rattle.fact.specs.Certificate as definition;
 ghost use Rattle.schedule.specs.Schedule.{registerList, Ordered};
 ghost use Rattle.certificate.specs.Staging.{Listed};
-ghost use Rattle.certificate.specs.Promise.{checkCall, Certifies};
+ghost use Rattle.certificate.specs.Promise.{checkCall, buffers, Certifies};
 use crate::pass::settle;
 use crate::pass::write_initial;
 use crate::round::run_rounds;
@@ -82,10 +82,39 @@ fn certify_ordered(
     ensures { λ _. ⌜ now (cells .exit)
         ≡ flatMap factBytes (listBelow (definition.certificate (circuit (now (t .entry)) n)) n) ++ drop (n * 8) (now (cells .entry)) ⌝ }
     ensures { λ _. ⌜ now (scratch .exit) ≡ replicate (n * 4) 0 ++ drop (n * 4) (now (scratch .entry)) ⌝ }
+    ensures { λ _. ⌜ ((v : ℕ) → v < n → factAt (now (cells .exit)) v ≡ definition.certificate (circuit (now (t .entry)) n) v) ⌝ }
 {
     write_initial(t, n, cells);
     settle(t, n, scratch, wires, cells);
     let rounds = run_rounds(t, n, scratch, wires, registers, cells);
     clear_part(scratch, n * 4);
     rounds
+}
+
+// The call on a table of n records that meets none of grounds 1 to 10.
+fn certify_checked(t: &[u8], n: usize, cells: &mut [u8], scratch: &mut [u16]) -> Certified
+    requires { ⌜ n ≡ length (now t) / 16 ⌝ }
+    requires { ⌜ checkCall (now t) (length (now cells)) (length (now scratch)) ≡ Passed ⌝ }
+    ensures { λ r. ⌜ Certifies
+        (buffers (now (t .entry)) (now (cells .entry)) (now (scratch .entry)) (now (cells .exit)) (now (scratch .exit))) r ⌝ }
+{
+    let outcome = schedule(t, n, n * 4, scratch);
+    match outcome {
+        Outcome::Loop(size) => Certified::Refused(Ground::Loop, size),
+        Outcome::Order(wires, registers) => {
+            Certified::Accepted(certify_ordered(t, n, scratch, wires, registers, cells))
+        }
+    }
+}
+
+// The certifying call.
+pub fn certify(table: &[u8], certificate: &mut [u8], scratch: &mut [u16]) -> Certified
+    ensures { λ r. ⌜ Certifies
+        (buffers (now (table .entry)) (now (certificate .entry)) (now (scratch .entry)) (now (certificate .exit)) (now (scratch .exit))) r ⌝ }
+{
+    let check = check_call(table, certificate.len(), scratch.len());
+    match check {
+        Check::Refused(ground, place) => Certified::Refused(ground, place),
+        Check::Passed => certify_checked(table, table.len() / 16, certificate, scratch),
+    }
 }

@@ -15,15 +15,13 @@ use Rattle.net.specs.Net.{input}
 use Rattle.circuit.specs.declared.record.InputKind.{InputKind}
 use Rattle.circuit.specs.declared.record.Record.{Record}
 use Rattle.circuit.specs.declared.record.Record.the-variants.{Input, Constant, Operator, Multiplexer, Register}
-use Rattle.circuit.specs.declared.refusal.Ground.{Ground}
 use Rattle.circuit.specs.declared.refusal.Ground.the-variants.{NotAnInput, PokeTooWide, FixedInput}
-use Rattle.circuit.specs.declared.refusal.Check.{Check}
-use Rattle.circuit.specs.declared.refusal.Check.the-variants.{Passed, Refused}
+use Rattle.circuit.specs.declared.refusal.Check.the-variants.{Passed}
 use Rattle.circuit.specs.declared.stimulus.ReadStimulus.the-variants.{Read}
-use Rattle.circuit.specs.Refusal.{refuse}
 use Rattle.circuit.specs.Record.{width, role, inputOf}
 use Rattle.circuit.specs.Circuit.{Circuit, recordOf}
 use Rattle.circuit.specs.Stimuli.{stimulusKind, stimulusVariable, stimulusValue, stimulusOf, isInput, fixedToOther, checkStimulus}
+use Rattle.circuit.proofs.Passing.{refuse-passed}
 
 -- the stimulus of a stimulus's kind, variable and value is that stimulus
 pub stimulus-of : (x : Stimulus) → stimulusOf (stimulusKind x) (stimulusVariable x) (stimulusValue x) ≡ x
@@ -37,21 +35,15 @@ pub record Poked (c : Circuit) (v x : ℕ) : Type 0 where
   pub fits : x < 2 ^ width (recordOf c v)
   pub allowed : fixedToOther (inputOf (recordOf c v)) x ≡ false
 
--- a test that does not refuse fails, and what is tried next passes
-passed : (ground : Ground) (place : ℕ) (b : Bool) (next : Check) → refuse ground place b next ≡ Passed
-    → (b ≡ false) × (next ≡ Passed)
-passed ground place true next e = absurd (let z : _≡_ {A = ℕ} 0 1 = cc in omega arith)
-passed ground place false next e = (refl, e)
-
 and-true : (a b : Bool) → (a && b) ≡ true → (a ≡ true) × (b ≡ true)
 and-true true b e = (refl, e)
 and-true false b e = absurd (let z : _≡_ {A = ℕ} 0 1 = cc in omega arith)
 
 pub poke-passed : (c : Circuit) (v x i : ℕ) → checkStimulus c (Read (Poke v x)) i ≡ Passed → Poked c v x
 poke-passed c v x i e =
-    let p15 = passed NotAnInput i (not (ltb v (length c) && isInput (inputOf (recordOf c v)))) _ e in
-    let p16 = passed PokeTooWide i (leb (2 ^ width (recordOf c v)) x) _ (p15 .1) in
-    let p17 = passed FixedInput i (fixedToOther (inputOf (recordOf c v)) x) _ (p16 .1) in
+    let p15 = refuse-passed NotAnInput i (not (ltb v (length c) && isInput (inputOf (recordOf c v)))) _ e in
+    let p16 = refuse-passed PokeTooWide i (leb (2 ^ width (recordOf c v)) x) _ (p15 .1) in
+    let p17 = refuse-passed FixedInput i (fixedToOther (inputOf (recordOf c v)) x) _ (p16 .1) in
     let q = and-true (ltb v (length c)) (isInput (inputOf (recordOf c v))) (not-false _ (p15 .0)) in
     record {
       below = ltb-true v (length c) (q .0);

@@ -18,24 +18,18 @@ use Rattle.net.proofs.Bools.{T-of, of-T, every-at}
 use Rattle.net.proofs.Lists.{length-listBelow, getD-listBelow}
 use Rattle.net.proofs.Loops.{ranked-or-loop}
 use Rattle.net.proofs.Settle.{Ranked}
-use Rattle.circuit.specs.declared.refusal.Check.{Check}
 use Rattle.circuit.specs.declared.refusal.Check.the-variants as check
 use Rattle.circuit.specs.declared.record.ReadRecord.{ReadRecord}
 use Rattle.circuit.specs.declared.record.ReadRecord.the-variants.{Read, Refused}
 use Rattle.circuit.specs.declared.record.Record.{Record}
 use Rattle.circuit.specs.Record.{uses}
-use Rattle.circuit.specs.Refusal.{_then_}
 use Rattle.circuit.specs.Reading.{fieldsAt, decode, readRecord}
 use Rattle.circuit.specs.Circuit.{Circuit, circuit, recordOf, graph, NoLoop}
 use Rattle.circuit.specs.Checks.{atRecord, checkRecordsFrom, checkRecords}
+use Rattle.circuit.proofs.Passing.{then-passed}
 use Rattle.circuit.proofs.Records.{Valid, read-valid}
 
 -- ---- the records
-
--- two checks pass where each does
-then-passed : (a b : Check) → (a then b) ≡ check.Passed → (a ≡ check.Passed) × (b ≡ check.Passed)
-then-passed check.Passed b e = (refl, e)
-then-passed (check.Refused ground place) b e = absurd (let z : _≡_ {A = ℕ} 0 1 = cc in omega arith)
 
 record-read : (x : ReadRecord) (i : ℕ) → atRecord x i ≡ check.Passed → (r : Record) × (x ≡ Read r)
 record-read (Read r) i e = (r, refl)

@@ -1,5 +1,6 @@
 -- The facts before any round, the wires along their order, the rounds, and the scratch cleared.
 -- Assumes nothing.
+use Rattle.certificate.proofs.Cells.{store-load, written-length, written-self}
 use mathlib.Core.Path.{ap, _∙_}
 use mathlib.Core.List.{List, _++_}
 use Prim.Native.Nat.{ℕ, _*_}
@@ -67,8 +68,11 @@ returns c =
       run .1 .1 .1,
       (
         certificate-written (x .t .now) (x .n) (x .cells .now) _ (written-trans (first .0) (written-trans (settled .0) (run .1 .0))) (run .1 .1 .0),
-        c .before .before .clear-part .ensures
-            ∙ ap (λ (l : List ℕ). replicate (x .n * 4) 0 ++ l) (kept-past (x .n) (x .n * 4) (x .scratch .now) _ (run .0) (omega arith)),
+        (
+          c .before .before .clear-part .ensures
+              ∙ ap (λ (l : List ℕ). replicate (x .n * 4) 0 ++ l) (kept-past (x .n) (x .n * 4) (x .scratch .now) _ (run .0) (omega arith)),
+          λ v h. store-load (c .before .before .before .before .before .before .before .before .run-rounds .last .1 .1 .1 .1 .1 .0) (x .n) v h ∙ run .1 .1 .0 v h,
+        ),
       ),
     )
 
