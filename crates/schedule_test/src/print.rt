@@ -1,0 +1,89 @@
+// The lines: a refusal with its number and place, an order or a loop with its counts and a checksum.
+ghost use mathlib.Core.Path.{_≡_};
+ghost use Prim.Native.Nat.{_≤_};
+ghost use lib.ListN.{length};
+ghost use Rattle.circuit.specs.Refusal.{groundNumber};
+ghost use Rattle.schedule_test.specs.Shown.{shown};
+use crate::wide;
+use circuit::refusal::Check;
+use circuit::refusal::Ground;
+use libc::STDOUT_FILENO;
+use schedule::Outcome;
+
+// Document 01's number of a ground.
+fn ground_number(ground: Ground) -> u64
+    ensures { λ r. ⌜ r ≡ groundNumber ground ⌝ }
+{
+    match ground {
+        Ground::TableTooLong => 1,
+        Ground::TableNotWhole => 2,
+        Ground::OutputShort => 3,
+        Ground::ScratchShort => 4,
+        Ground::UnknownKind => 5,
+        Ground::BadWidth => 6,
+        Ground::UnknownCode => 7,
+        Ground::UnusedNotZero => 8,
+        Ground::NoSuchVariable => 9,
+        Ground::ValueTooWide => 10,
+        Ground::Loop => 11,
+        Ground::StimuliNotWhole => 12,
+        Ground::TooManyStimuli => 13,
+        Ground::BadStimulus => 14,
+        Ground::NotAnInput => 15,
+        Ground::PokeTooWide => 16,
+        Ground::FixedInput => 17,
+    }
+}
+
+// A checksum over the first numbers of the scratch, in which their order counts.
+fn checksum(s: &[u16], count: usize) -> usize
+    requires { ⌜ count ≤ length (now s) ⌝ }
+{
+    let mut sum: usize = 0;
+    let mut i = 0;
+    while i < count {
+        sum = (sum * 31 + wide(s[i])) % 65536;
+        i += 1;
+    }
+    sum
+}
+
+// A space and a number.
+fn print_number(n: u64) {
+    io::write_all(STDOUT_FILENO, b" ");
+    io::print_decimal(STDOUT_FILENO, n);
+}
+
+// The line of a refusal; none where the check passed.
+pub fn print_refusal(check: Check) {
+    match check {
+        Check::Passed => {}
+        Check::Refused(ground, place) => {
+            io::write_all(STDOUT_FILENO, b"refused");
+            print_number(ground_number(ground));
+            io::write_all(STDOUT_FILENO, b" at");
+            print_number(place as u64);
+            io::write_all(STDOUT_FILENO, b"\n");
+        }
+    }
+}
+
+// The line of an order, or of a loop.
+pub fn print_outcome(outcome: Outcome, scratch: &[u16])
+    requires { ⌜ shown outcome ≤ length (now scratch) ⌝ }
+{
+    match outcome {
+        Outcome::Order(wires, registers) => {
+            io::write_all(STDOUT_FILENO, b"order");
+            print_number(wires as u64);
+            print_number(registers as u64);
+            print_number(checksum(scratch, wires + registers) as u64);
+        }
+        Outcome::Loop(size) => {
+            io::write_all(STDOUT_FILENO, b"loop");
+            print_number(size as u64);
+            print_number(checksum(scratch, size) as u64);
+        }
+    }
+    io::write_all(STDOUT_FILENO, b"\n");
+}
