@@ -1,5 +1,5 @@
--- A certificate's bytes as a store of facts: what is loaded is the store's, storing a fact changes that one, and facts written
--- one after another from the first are a store.
+-- A certificate's bytes as a store of facts: what is loaded is the store's, storing a fact changes that one, and
+-- facts written one after another from the first are a store.
 -- Assumes nothing.
 use mathlib.Core.Path.{_≡_, refl, sym, ap, ap₂, _∙_, subst}
 use mathlib.Core.List.{List, [], _∷_, _++_, flatMap, append-assoc}
@@ -57,7 +57,8 @@ module _ {n : ℕ} {entry cells : List ℕ} (w : Written n entry cells) where
   pub written-past : drop (n * 8) cells ≡ drop (n * 8) entry
   written-past =
       ap (drop (n * 8)) (w .bytes)
-      ∙ drop-at (flatMap factBytes (facts cells n)) (drop (n * 8) entry) (n * 8) (rw (flatMap-length (facts cells n), facts-length))
+      ∙ drop-at (flatMap factBytes (facts cells n)) (drop (n * 8) entry) (n * 8)
+      (rw (flatMap-length (facts cells n), facts-length))
 
   pub written-length : n * 8 ≤ length entry → length cells ≡ length entry
   written-length h =
@@ -92,12 +93,14 @@ module _ {n : ℕ} {entry cells : List ℕ} (w : Written n entry cells) where
 
     pub written-store : Written n entry (sets cells (v * 8) (factBytes f))
     written-store =
-        subst (λ (l : List ℕ). Written n entry l) (sym after-store) (written-of n entry (set (facts cells n) v f) set-length set-fits)
+        subst (λ (l : List ℕ). Written n entry l) (sym after-store)
+        (written-of n entry (set (facts cells n) v f) set-length set-fits)
 
     pub facts-store : facts (sets cells (v * 8) (factBytes f)) n ≡ set (facts cells n) v f
     facts-store =
         ap (λ (l : List ℕ). facts l n) after-store
-        ∙ subst (λ (k : ℕ). facts (flatMap factBytes (set (facts cells n) v f) ++ drop (n * 8) entry) k ≡ set (facts cells n) v f)
+        ∙ subst (λ (k : ℕ). facts (flatMap factBytes (set (facts cells n) v f) ++ drop (n * 8) entry) k ≡ set
+        (facts cells n) v f)
         set-length (facts-read (set (facts cells n) v f) (drop (n * 8) entry) set-fits)
 
     pub store-here : storeOf (sets cells (v * 8) (factBytes f)) n v ≡ f
@@ -116,7 +119,9 @@ listBelow-snoc s (suc n) = ap (λ l. s zero ∷ l) (listBelow-snoc (λ v. s (suc
 flatMap-snoc : (fs : List Fact) (f : Fact) → flatMap factBytes (fs ++ (f ∷ [])) ≡ flatMap factBytes fs ++ factBytes f
 unfolding flatMap
 flatMap-snoc [] f = refl
-flatMap-snoc (g ∷ fs) f = ap (λ (l : List ℕ). factBytes g ++ l) (flatMap-snoc fs f) ∙ sym (append-assoc (factBytes g) (flatMap factBytes fs) (factBytes f))
+flatMap-snoc (g ∷ fs) f =
+    ap (λ (l : List ℕ). factBytes g ++ l) (flatMap-snoc fs f) ∙ sym
+    (append-assoc (factBytes g) (flatMap factBytes fs) (factBytes f))
 
 -- the first i facts of a store stand in the bytes, and their numbers fit
 pub record Begun (s : ℕ → Fact) (i : ℕ) (entry cells : List ℕ) : Type 0 where
@@ -165,7 +170,8 @@ module _ (s : ℕ → Fact) (i : ℕ) (entry cells : List ℕ) (b : Begun s i en
       eight-more : (i + 1) * 8 ≡ i * 8 + 8
       eight-more = omega arith
 
-      wanted : flatMap factBytes (listBelow s (i + 1)) ++ drop ((i + 1) * 8) entry ≡ p ++ factBytes (s i) ++ drop (i * 8 + 8) entry
+      wanted : flatMap factBytes (listBelow s (i + 1)) ++ drop ((i + 1) * 8) entry ≡ p ++ factBytes (s i) ++ drop
+          (i * 8 + 8) entry
       wanted =
           ap (λ (x : List ℕ). x ++ drop ((i + 1) * 8) entry)
           (ap (λ (k : ℕ). flatMap factBytes (listBelow s k)) (add-one i)
@@ -176,9 +182,11 @@ module _ (s : ℕ → Fact) (i : ℕ) (entry cells : List ℕ) (b : Begun s i en
 pub begun-all : (s : ℕ → Fact) (n : ℕ) (entry cells : List ℕ) → Begun s n entry cells
     → Written n entry cells × (facts cells n ≡ listBelow s n)
 begun-all s n entry cells b = (
-  subst (λ (l : List ℕ). Written n entry l) (sym (b .bytes)) (written-of n entry (listBelow s n) (length-listBelow s n) all-fit),
+  subst (λ (l : List ℕ). Written n entry l) (sym (b .bytes))
+      (written-of n entry (listBelow s n) (length-listBelow s n) all-fit),
   ap (λ (l : List ℕ). facts l n) (b .bytes)
-      ∙ subst (λ (k : ℕ). facts (flatMap factBytes (listBelow s n) ++ drop (n * 8) entry) k ≡ listBelow s n) (length-listBelow s n)
+      ∙ subst (λ (k : ℕ). facts (flatMap factBytes (listBelow s n) ++ drop (n * 8) entry) k ≡ listBelow s n)
+      (length-listBelow s n)
       (facts-read (listBelow s n) (drop (n * 8) entry) all-fit),
 )
   where

@@ -41,7 +41,8 @@ initial-settled t n inside noLoop first settled e h v below =
 
 -- ---- the bytes
 
-facts-are : (s : ℕ → Fact) (n : ℕ) (cells : List ℕ) → ((v : ℕ) → v < n → storeOf cells n v ≡ s v) → facts cells n ≡ listBelow s n
+facts-are : (s : ℕ → Fact) (n : ℕ) (cells : List ℕ) → ((v : ℕ) → v < n → storeOf cells n v ≡ s v)
+    → facts cells n ≡ listBelow s n
 facts-are s n cells h =
     ext-getD Open (facts cells n) (listBelow s n) (size ∙ sym (length-listBelow s n))
     (λ i l.
@@ -55,7 +56,8 @@ pub certificate-written : (t : List ℕ) (n : ℕ) (entry cells : List ℕ) → 
     → ((v : ℕ) → v < n → storeOf cells n v ≡ certificate (circuit t n) v)
     → cells ≡ flatMap factBytes (listBelow (certificate (circuit t n)) n) ++ drop (n * 8) entry
 certificate-written t n entry cells w h =
-    w .bytes ∙ ap (λ (fs : List Fact). flatMap factBytes fs ++ drop (n * 8) entry) (facts-are (certificate (circuit t n)) n cells h)
+    w .bytes ∙ ap (λ (fs : List Fact). flatMap factBytes fs ++ drop (n * 8) entry)
+    (facts-are (certificate (circuit t n)) n cells h)
 
 -- ---- the scratch
 
@@ -72,7 +74,8 @@ pub clear-length : (entry : List ℕ) (i : ℕ) → i ≤ length entry → lengt
 clear-length entry i h =
     length-append (replicate i 0) (drop i entry) ∙ omega (arith, length-replicate {A = ℕ} i 0, length-drop i entry)
 
-pub kept-past : (n part : ℕ) (entry scratch : List ℕ) → KeptAround n entry scratch → n + n ≤ part → drop part scratch ≡ drop part entry
+pub kept-past : (n part : ℕ) (entry scratch : List ℕ) → KeptAround n entry scratch → n + n ≤ part
+    → drop part scratch ≡ drop part entry
 kept-past n part entry scratch kept h =
     ext-getD 0 (drop part scratch) (drop part entry)
     (length-drop part scratch ∙ ap (λ (k : ℕ). k - part) (kept .long) ∙ sym (length-drop part entry))
@@ -80,7 +83,8 @@ kept-past n part entry scratch kept h =
 
 -- ---- checks in order
 
-pub check-stops : (x a rest : Check) (g : Ground) (place : ℕ) → x ≡ a → x ≡ Refused g place → Refused g place ≡ (a then rest)
+pub check-stops : (x a rest : Check) (g : Ground) (place : ℕ) → x ≡ a → x ≡ Refused g place
+    → Refused g place ≡ (a then rest)
 check-stops x a rest g place e q = sym (ap (λ (y : Check). y then rest) (sym e ∙ q))
 
 pub check-goes-on : (x a rest : Check) → x ≡ a → x ≡ Passed → (a then rest) ≡ rest

@@ -31,7 +31,8 @@ pub record Fits (t : List ℕ) (cells scratch n : ℕ) : Type 0 where
   pub room : n * 4 ≤ scratch
   pub valid : checkRecords t n ≡ Passed
 
-pub call-fits : (t : List ℕ) (cells scratch n : ℕ) → n ≡ length t / 16 → checkCall t cells scratch ≡ Passed → Fits t cells scratch n
+pub call-fits : (t : List ℕ) (cells scratch n : ℕ) → n ≡ length t / 16 → checkCall t cells scratch ≡ Passed
+    → Fits t cells scratch n
 call-fits t cells scratch n e ok =
     let (p, rest) = then-passed (checkLength (length t)) _ ok in
     let (q, rest′) = then-passed (checkOutput cells (length t / 16 * 8)) _ rest in
@@ -47,7 +48,8 @@ call-fits t cells scratch n e ok =
 
 -- ---- what an order in the scratch gives
 
-module _ {c : Circuit} {part : ℕ} {entry scratch : List ℕ} {wires registers : ℕ} (o : IsOrder c part entry scratch wires registers)
+module _ {c : Circuit} {part : ℕ} {entry scratch : List ℕ} {wires registers : ℕ}
+    (o : IsOrder c part entry scratch wires registers)
     (room : wires + registers ≤ part) where
   rest : List ℕ
   rest = registerList c ++ (replicate (part - (wires + registers)) 0 ++ drop part entry)
@@ -55,13 +57,15 @@ module _ {c : Circuit} {part : ℕ} {entry scratch : List ℕ} {wires registers 
   pub order-taken : Ordered c (take wires scratch)
   unfolding rest
   order-taken =
-      subst (λ (l : List ℕ). Ordered c l) (sym (ap (take wires) (o .scratch) ∙ take-at (o .order) rest wires (o .order-length))) (o .ordered)
+      subst (λ (l : List ℕ). Ordered c l)
+      (sym (ap (take wires) (o .scratch) ∙ take-at (o .order) rest wires (o .order-length))) (o .ordered)
 
   pub order-listed : Listed c scratch wires
   unfolding rest
   order-listed j h =
       ap (λ (l : List ℕ). getD l (wires + j) 0) (o .scratch)
-      ∙ subst (λ (k : ℕ). getD (o .order ++ rest) (k + j) 0 ≡ getD rest j 0) (o .order-length) (getD-append-add (o .order) rest j 0)
+      ∙ subst (λ (k : ℕ). getD (o .order ++ rest) (k + j) 0 ≡ getD rest j 0) (o .order-length)
+      (getD-append-add (o .order) rest j 0)
       ∙ List·getD-append (registerList c) (replicate (part - (wires + registers)) 0 ++ drop part entry) 0 j h
 
   front : List ℕ
@@ -91,7 +95,8 @@ module _ {c : Circuit} {part : ℕ} {entry scratch : List ℕ} {wires registers 
 
 -- ---- the least closed store, of bytes that agree with it
 
-least-agree : (c : Circuit) → Inside c → (s t : ℕ → Fact) → ((v : ℕ) → v < length c → t v ≡ s v) → LeastStore c s → LeastStore c t
+least-agree : (c : Circuit) → Inside c → (s t : ℕ → Fact) → ((v : ℕ) → v < length c → t v ≡ s v) → LeastStore c s
+    → LeastStore c t
 least-agree c inside s t h (closed, least) = (
   λ v below. rw (h v below, rules-agree c inside t s h v below) (closed v below),
   λ u other v below. rw (h v below) (least u other v below),
@@ -113,15 +118,20 @@ module _ (t cells scratch : List ℕ) (n : ℕ) (ok : checkCall t (length cells)
       record {
         passed = ok;
         no-loop = noLoop;
-        counts = subst (λ (j : ℕ). Counts (graph c) (rule c) (initialStore c) j) (sym e) (rounds-counted c inside noLoop);
+        counts =
+            subst (λ (j : ℕ). Counts (graph c) (rule c) (initialStore c) j) (sym e) (rounds-counted c inside noLoop);
         few = rw e (rounds-few c inside noLoop);
         certificate =
             bytes
-            ∙ ap (λ (j : ℕ). flatMap factBytes (listBelow (after (graph c) (rule c) j (initialStore c)) n) ++ drop (n * 8) cells) (sym e);
+            ∙ ap (λ (j : ℕ). flatMap factBytes (listBelow (after (graph c) (rule c) j (initialStore c)) n) ++ drop
+            (n * 8) cells) (sym e);
         least =
-            least-agree c inside (certificate c) (factAt cells′) (λ v below. facts v (omega (arith, circuit-length t n)))
+            least-agree c inside (certificate c) (factAt cells′)
+            (λ v below. facts v (omega (arith, circuit-length t n)))
             (certificate-least c inside noLoop);
-        scratch = cleared ∙ ap (λ (l : List ℕ). replicate (n * 4) 0 ++ l) (order-past o (omega (arith, o .fits, circuit-length t n)));
+        scratch =
+            cleared ∙ ap (λ (l : List ℕ). replicate (n * 4) 0 ++ l)
+            (order-past o (omega (arith, o .fits, circuit-length t n)));
       }
     where
       c : Circuit

@@ -29,7 +29,8 @@ written-trans {n} {a} {b} {c} p q =
       fits = q .fits;
     }
 
-module _ {t : List ℕ} {n : ℕ} {scratch cells scratch′ cells′ : List ℕ} {wires registers : ℕ} (r : Ready t n scratch cells wires registers)
+module _ {t : List ℕ} {n : ℕ} {scratch cells scratch′ cells′ : List ℕ} {wires registers : ℕ}
+    (r : Ready t n scratch cells wires registers)
     (kept : KeptAround n scratch scratch′) (written : Written n cells cells′) where
   same-order : take wires scratch′ ≡ take wires scratch
   same-order =

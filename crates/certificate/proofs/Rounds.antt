@@ -43,9 +43,11 @@ module _ (c : Circuit) (inside : Inside c) (noLoop : NoLoop c) where
 
   -- ---- stores that agree settle and step alike
 
-  pub settle-agree : (s t : ℕ → Fact) → Agree c s t → Agree c (settle (graph c) (rule c) s) (settle (graph c) (rule c) t)
+  pub settle-agree : (s t : ℕ → Fact) → Agree c s t
+      → Agree c (settle (graph c) (rule c) s) (settle (graph c) (rule c) t)
   settle-agree s t h =
-      settle-unique ranked (rule c) (rules-local c) t (settle (graph c) (rule c) s) (settle-settled ranked (rule c) (rules-local c) s)
+      settle-unique ranked (rule c) (rules-local c) t (settle (graph c) (rule c) s)
+      (settle-settled ranked (rule c) (rules-local c) s)
       (λ v below e. settle-input (graph c) (rule c) s v e ∙ h v below)
       (λ v below e. settle-register (graph c) (rule c) s v e ∙ h v below)
 
@@ -54,11 +56,13 @@ module _ (c : Circuit) (inside : Inside c) (noLoop : NoLoop c) where
       by-role (role (recordOf c v))
       (λ e. step-input (graph c) (rule c) s v e ∙ h v below ∙ sym (step-input (graph c) (rule c) t v e))
       (λ e. step-wire (graph c) (rule c) s v e ∙ h v below ∙ sym (step-wire (graph c) (rule c) t v e))
-      (λ e. step-register (graph c) (rule c) s v e ∙ rules-agree c inside s t h v below ∙ sym (step-register (graph c) (rule c) t v e))
+      (λ e. step-register (graph c) (rule c) s v e ∙ rules-agree c inside s t h v below ∙ sym
+      (step-register (graph c) (rule c) t v e))
 
   round-register : (s : ℕ → Fact) (v : ℕ) → role (recordOf c v) ≡ register → round (graph c) (rule c) s v ≡ rule c s v
   unfolding round
-  round-register s v e = settle-register (graph c) (rule c) (step (graph c) (rule c) s) v e ∙ step-register (graph c) (rule c) s v e
+  round-register s v e =
+      settle-register (graph c) (rule c) (step (graph c) (rule c) s) v e ∙ step-register (graph c) (rule c) s v e
 
   -- ---- one round more
 
@@ -75,7 +79,8 @@ module _ (c : Circuit) (inside : Inside c) (noLoop : NoLoop c) where
 
   -- ---- when they stop
 
-  module _ (k : ℕ) (s : ℕ → Fact) (h : Agree c s (after (graph c) (rule c) k (initialStore c))) (few : k ≤ rounds c) where
+  module _ (k : ℕ) (s : ℕ → Fact) (h : Agree c s (after (graph c) (rule c) k (initialStore c)))
+      (few : k ≤ rounds c) where
     counted : Counts (graph c) (rule c) (initialStore c) (rounds c)
     counted = rounds-counted c inside noLoop
 
@@ -111,13 +116,15 @@ module _ (c : Circuit) (inside : Inside c) (noLoop : NoLoop c) where
                 let v = getD (registerList c) j 0 in
                 let same-fact : rule c s v ≡ s v =
                 register-fact v below is-register
-                ∙ subst (λ (i : ℕ). round (graph c) (rule c) (after (graph c) (rule c) i (initialStore c)) v ≡ after (graph c) (rule c) i (initialStore c) v)
+                ∙ subst (λ (i : ℕ). round (graph c) (rule c) (after (graph c) (rule c) i (initialStore c)) v ≡ after
+                (graph c) (rule c) i (initialStore c) v)
                 (sym q) (counted .stops v below is-register)
                 ∙ sym (h v below) in
                 T-of _ (ap (λ (f : Fact). same f (s v)) same-fact ∙ same-refl (s v))
 
   -- the store in which they stop is the certificate
-  pub certificate-reached : (k : ℕ) (s : ℕ → Fact) → Agree c s (after (graph c) (rule c) k (initialStore c)) → k ≡ rounds c
+  pub certificate-reached : (k : ℕ) (s : ℕ → Fact) → Agree c s (after (graph c) (rule c) k (initialStore c))
+      → k ≡ rounds c
       → Agree c s (certificate c)
   unfolding certificate stopped rounds
   certificate-reached k s h e v below = h v below ∙ ap (λ (j : ℕ). after (graph c) (rule c) j (initialStore c) v) e

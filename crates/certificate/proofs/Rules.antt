@@ -1,4 +1,5 @@
--- The rule of a variable, by what its record reads as: its width is at most 32 and its operands are variables of the table.
+-- The rule of a variable, by what its record reads as: its width is at most 32 and its operands are variables of the
+-- table.
 -- Assumes nothing.
 use mathlib.Core.Path.{_≡_, refl, sym, ap, _∙_, subst}
 use mathlib.Core.List.{List}
@@ -23,7 +24,8 @@ use Rattle.fact.specs.declared.Fact.{Fact}
 use Rattle.fact.specs.declared.Fact.the-variants.{Always}
 use Rattle.fact.specs.Rule.{operatorRule, multiplexerRule, registerRule, ruleOf, rule}
 
-module _ (t : List ℕ) (n : ℕ) (ok : checkRecords t n ≡ Passed) (v : ℕ) (h : v < n) (r : Record) (e : r ≡ decode (fieldsAt t (v * 16))) where
+module _ (t : List ℕ) (n : ℕ) (ok : checkRecords t n ≡ Passed) (v : ℕ) (h : v < n) (r : Record)
+    (e : r ≡ decode (fieldsAt t (v * 16))) where
   width-most : width r ≤ 32
   width-most = rw (e, decode-width (fieldsAt t (v * 16))) (records-valid t n ok v h .width-most)
 
@@ -48,7 +50,8 @@ module _ (t : List ℕ) (n : ℕ) (ok : checkRecords t n ≡ Passed) (v : ℕ) (
   )
 
   pub multiplexer-here : (w a b c : ℕ) → r ≡ Multiplexer w a b c
-      → (w ≤ 32) × (a < n) × (b < n) × (c < n) × ((s : ℕ → Fact) → multiplexerRule w (s a) (s b) (s c) ≡ rule (circuit t n) s v)
+      → (w ≤ 32) × (a < n) × (b < n) × (c < n) ×
+      ((s : ℕ → Fact) → multiplexerRule w (s a) (s b) (s c) ≡ rule (circuit t n) s v)
   unfolding rule
   multiplexer-here w a b c q = (
     subst (λ (x : Record). width x ≤ 32) q width-most,

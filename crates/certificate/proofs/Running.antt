@@ -35,11 +35,13 @@ registers-few : (c : Circuit) → definition.registers c ≤ length c
 unfolding definition.registers sumRegisters
 registers-few c =
     le-trans
-    (sum-mono (λ v. elim (graph c .role v) as (λ _. ℕ) [ input ↦ zero | wire ↦ zero | register ↦ 1 ]) (λ v. 1) (length c)
+    (sum-mono (λ v. elim (graph c .role v) as (λ _. ℕ) [ input ↦ zero | wire ↦ zero | register ↦ 1 ]) (λ v. 1)
+    (length c)
     (λ v h. at-most-one (graph c .role v)))
     (le-of-eq (sum-one (length c)))
 
-module _ {t : List ℕ} {n : ℕ} {scratch cells : List ℕ} {wires registers : ℕ} (r : Ready t n scratch cells wires registers) where
+module _ {t : List ℕ} {n : ℕ} {scratch cells : List ℕ} {wires registers : ℕ}
+    (r : Ready t n scratch cells wires registers) where
   inside : Inside (circuit t n)
   inside = circuit-inside t n (r .valid)
 
@@ -55,7 +57,8 @@ pub record Running (t : List ℕ) (n : ℕ) (scratch₀ cells₀ scratch cells :
   pub ready : Ready t n scratch cells wires registers
   pub kept : KeptAround n scratch₀ scratch
   pub written : Written n cells₀ cells
-  pub store : (v : ℕ) → v < n → storeOf cells n v ≡ after (graph (circuit t n)) (rule (circuit t n)) count (initialStore (circuit t n)) v
+  pub store : (v : ℕ) → v < n
+      → storeOf cells n v ≡ after (graph (circuit t n)) (rule (circuit t n)) count (initialStore (circuit t n)) v
   pub few : count ≤ rounds (circuit t n)
 
 module _ {t : List ℕ} {n : ℕ} {scratch₀ cells₀ scratch cells : List ℕ} {wires registers count : ℕ}
@@ -66,7 +69,8 @@ module _ {t : List ℕ} {n : ℕ} {scratch₀ cells₀ scratch cells : List ℕ}
 
   registers-all : (b : Bool) → allBelow (staysAt (circuit t n) (storeOf cells n)) registers ≡ b
       → allBelow (staysAt (circuit t n) (storeOf cells n)) (length (registerList (circuit t n))) ≡ b
-  registers-all b e = subst (λ (k : ℕ). allBelow (staysAt (circuit t n) (storeOf cells n)) k ≡ b) (run .ready .all-registers) e
+  registers-all b e =
+      subst (λ (k : ℕ). allBelow (staysAt (circuit t n) (storeOf cells n)) k ≡ b) (run .ready .all-registers) e
 
   pub still-running : (changed : Bool) → changed ≡ not (allBelow (staysAt (circuit t n) (storeOf cells n)) registers)
       → not changed ≡ false → count < rounds (circuit t n)
@@ -88,8 +92,10 @@ module _ {t : List ℕ} {n : ℕ} {scratch₀ cells₀ scratch cells : List ℕ}
   module _ {scratch′ committed settled : List ℕ} (k : KeptAround n scratch scratch′) (w : Written n cells committed)
       (w′ : Written n committed settled) where
     pub run-next : count < rounds (circuit t n)
-        → ((v : ℕ) → v < n → storeOf committed n v ≡ step (graph (circuit t n)) (rule (circuit t n)) (storeOf cells n) v)
-        → ((v : ℕ) → v < n → storeOf settled n v ≡ settle (graph (circuit t n)) (rule (circuit t n)) (storeOf committed n) v)
+        → ((v : ℕ) → v < n → storeOf committed n v ≡ step (graph (circuit t n)) (rule (circuit t n))
+        (storeOf cells n) v)
+        → ((v : ℕ) → v < n → storeOf settled n v ≡ settle (graph (circuit t n)) (rule (circuit t n))
+        (storeOf committed n) v)
         → Running t n scratch₀ cells₀ scratch′ settled wires registers (count + 1)
     run-next l stepped done =
         record {
@@ -97,15 +103,19 @@ module _ {t : List ℕ} {n : ℕ} {scratch₀ cells₀ scratch cells : List ℕ}
           kept = kept-trans (run .kept) k;
           written = written-trans (run .written) (written-trans w w′);
           store = λ v h.
-              next-round (circuit t n) (inside (run .ready)) (noLoop (run .ready)) count (storeOf cells n) (storeOf committed n) (storeOf settled n)
-              agree (λ u q. stepped u (omega (arith, circuit-length t n))) (λ u q. done u (omega (arith, circuit-length t n))) v
+              next-round (circuit t n) (inside (run .ready)) (noLoop (run .ready)) count (storeOf cells n)
+              (storeOf committed n) (storeOf settled n)
+              agree (λ u q. stepped u (omega (arith, circuit-length t n)))
+              (λ u q. done u (omega (arith, circuit-length t n))) v
               (omega (arith, circuit-length t n));
           few = omega arith;
         }
 
 -- before any round
-pub run-start : {t : List ℕ} {n : ℕ} {scratch cells : List ℕ} {wires registers : ℕ} → Ready t n scratch cells wires registers
-    → ((v : ℕ) → v < n → storeOf cells n v ≡ initialStore (circuit t n) v) → Running t n scratch cells scratch cells wires registers 0
+pub run-start : {t : List ℕ} {n : ℕ} {scratch cells : List ℕ} {wires registers : ℕ}
+    → Ready t n scratch cells wires registers
+    → ((v : ℕ) → v < n → storeOf cells n v ≡ initialStore (circuit t n) v)
+    → Running t n scratch cells scratch cells wires registers 0
 unfolding after
 run-start {n} {scratch} r h =
     record { ready = r; kept = kept-same n scratch; written = r .written; store = h; few = zero-le }

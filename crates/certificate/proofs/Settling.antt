@@ -26,7 +26,8 @@ pub record Passed-wires (t : List ℕ) (n : ℕ) (order entry cells : List ℕ) 
   pub written : Written n entry cells
   pub store : (v : ℕ) → storeOf cells n v ≡ along (rule (circuit t n)) order i (storeOf entry n) v
 
-pub none-passed : (t : List ℕ) (n : ℕ) (order cells : List ℕ) → Written n cells cells → Passed-wires t n order cells cells 0
+pub none-passed : (t : List ℕ) (n : ℕ) (order cells : List ℕ) → Written n cells cells
+    → Passed-wires t n order cells cells 0
 none-passed t n order cells w =
     record { written = w; store = λ v. sym (along-none (rule (circuit t n)) order (storeOf cells n) v) }
 
@@ -69,5 +70,6 @@ module _ (t : List ℕ) (n : ℕ) (scratch : List ℕ) (wires : ℕ) (few : wire
         let all : i ≡ length (take wires scratch) = omega (arith, order-length) in
         p .store v
         ∙ ap (λ (j : ℕ). along (rule (circuit t n)) (take wires scratch) j (storeOf entry n) v) all
-        ∙ along-settle (circuit t n) (take wires scratch) ordered (rule (circuit t n)) (rules-local (circuit t n)) (storeOf entry n)
+        ∙ along-settle (circuit t n) (take wires scratch) ordered (rule (circuit t n)) (rules-local (circuit t n))
+        (storeOf entry n)
         (circuit-inside t n ok) v (omega (arith, circuit-length t n))

@@ -1,5 +1,5 @@
--- Staging the registers' facts and writing them together: the invariants of the two passes, and that they end in the store after
--- the step of a round.
+-- Staging the registers' facts and writing them together: the invariants of the two passes, and that they end in the
+-- store after the step of a round.
 -- Assumes nothing.
 use mathlib.Core.Path.{_≡_, refl, sym, ap, _∙_, subst}
 use mathlib.Core.Bool.{Bool, true, false, not, _&&_, _||_, cond}
@@ -75,7 +75,8 @@ none-staged c s n entry =
       staged = λ j h. absurd (not-suc-le-zero h);
     }
 
-pub one-staged : (c : Circuit) (s : ℕ → Fact) (n : ℕ) (entry scratch : List ℕ) (j byte : ℕ) → StagedSo c s n entry scratch j
+pub one-staged : (c : Circuit) (s : ℕ → Fact) (n : ℕ) (entry scratch : List ℕ) (j byte : ℕ)
+    → StagedSo c s n entry scratch j
     → j < n → n + n ≤ length entry → byte ≡ factByte (rule c s (getD (registerList c) j 0))
     → StagedSo c s n entry (set scratch (n + j) byte) (j + 1)
 one-staged c s n entry scratch j byte p h room is =
@@ -92,32 +93,41 @@ one-staged c s n entry scratch j byte p h room is =
     here : (k : ℕ) → k ≡ j → getD (set scratch (n + j) byte) (n + k) 0 ≡ factByte (rule c s (getD (registerList c) k 0))
     here k e = rw e (getD-set-same scratch (n + j) byte 0 (omega (arith, p .kept .long)) ∙ is)
 
-    there : (k : ℕ) → (k ≡ j → ⊥) → k < j → getD (set scratch (n + j) byte) (n + k) 0 ≡ factByte (rule c s (getD (registerList c) k 0))
+    there : (k : ℕ) → (k ≡ j → ⊥) → k < j
+        → getD (set scratch (n + j) byte) (n + k) 0 ≡ factByte (rule c s (getD (registerList c) k 0))
     there k ne q = getD-set-other scratch (n + j) (n + k) byte 0 (λ e. ne (omega arith)) ∙ p .staged k q
 
 -- what stands in the scratch at register j's place is that register
 pub listed-register : (t : List ℕ) (n : ℕ) (entry scratch : List ℕ) (first j v : ℕ) → KeptAround n entry scratch
-    → Listed (circuit t n) entry first → first + j < n → j < length (registerList (circuit t n)) → v ≡ getD scratch (first + j) 0
+    → Listed (circuit t n) entry first → first + j < n → j < length (registerList (circuit t n))
+    → v ≡ getD scratch (first + j) 0
     → (v ≡ getD (registerList (circuit t n)) j 0) × (v < n) × (role (recordOf (circuit t n) v) ≡ register)
 listed-register t n entry scratch first j v kept listed h l e =
     let is : v ≡ getD (registerList (circuit t n)) j 0 = e ∙ kept .below (first + j) h ∙ listed j l in
-    let (below, is-register) = registerList-register (circuit t n) j l in
-    (is, omega (arith, circuit-length t n), subst (λ (u : ℕ). role (recordOf (circuit t n) u) ≡ register) (sym is) is-register)
+    let (below, is-register) = registerList-register (circuit t n) j l in (
+      is,
+      omega (arith, circuit-length t n),
+      subst (λ (u : ℕ). role (recordOf (circuit t n) u) ≡ register)
+          (sym is) is-register,
+    )
 
 -- ---- writing
 
 -- the first j registers have their staged facts
 pub record Committed (c : Circuit) (n : ℕ) (entry cells : List ℕ) (j : ℕ) : Type 0 where
   pub written : Written n entry cells
-  pub done : (k : ℕ) → k < j → storeOf cells n (getD (registerList c) k 0) ≡ rule c (storeOf entry n) (getD (registerList c) k 0)
+  pub done : (k : ℕ) → k < j
+      → storeOf cells n (getD (registerList c) k 0) ≡ rule c (storeOf entry n) (getD (registerList c) k 0)
   pub rest : (u : ℕ) → ((k : ℕ) → k < j → getD (registerList c) k 0 ≡ u → ⊥) → storeOf cells n u ≡ storeOf entry n u
 
 pub none-committed : (c : Circuit) (n : ℕ) (cells : List ℕ) → Written n cells cells → Committed c n cells cells 0
 none-committed c n cells w = record { written = w; done = λ k h. absurd (not-suc-le-zero h); rest = λ u h. refl }
 
-module _ (c : Circuit) (n : ℕ) (size : length c ≡ n) (entry cells : List ℕ) (j : ℕ) (p : Committed c n entry cells j) where
+module _ (c : Circuit) (n : ℕ) (size : length c ≡ n) (entry cells : List ℕ) (j : ℕ)
+    (p : Committed c n entry cells j) where
   pub one-committed : (v : ℕ) (f : Fact) → j < length (registerList c) → v ≡ getD (registerList c) j 0
-      → f ≡ rule c (storeOf entry n) v → factNumber f < 2 ^ 32 → Committed c n entry (sets cells (v * 8) (factBytes f)) (j + 1)
+      → f ≡ rule c (storeOf entry n) v → factNumber f < 2 ^ 32
+      → Committed c n entry (sets cells (v * 8) (factBytes f)) (j + 1)
   one-committed v f h e is fit =
       record {
         written = written-store (p .written) v f below fit;
@@ -145,8 +155,10 @@ module _ (c : Circuit) (n : ℕ) (size : length c ≡ n) (entry cells : List ℕ
       → storeOf cells n v ≡ step (graph c) (rule c) (storeOf entry n) v
   all-committed all few v below =
       by-role (role (recordOf c v))
-      (λ d. p .rest v (no-register (λ q. no-input (sym d ∙ q))) ∙ sym (step-input (graph c) (rule c) (storeOf entry n) v d))
-      (λ d. p .rest v (no-register (λ q. no-wire (sym d ∙ q))) ∙ sym (step-wire (graph c) (rule c) (storeOf entry n) v d))
+      (λ d. p .rest v (no-register (λ q. no-input (sym d ∙ q))) ∙ sym
+      (step-input (graph c) (rule c) (storeOf entry n) v d))
+      (λ d. p .rest v (no-register (λ q. no-wire (sym d ∙ q))) ∙ sym
+      (step-wire (graph c) (rule c) (storeOf entry n) v d))
       (λ d.
       let (k, l, e) = registerList-all c v (omega arith) d in
       rw e at (p .done k (omega arith)) ∙ sym (step-register (graph c) (rule c) (storeOf entry n) v d))

@@ -1,5 +1,5 @@
--- A round's registers: where they stand in the scratch, and their next facts staged behind the order as byte 0 of each, for
--- contracts of what works on them.
+-- A round's registers: where they stand in the scratch, and their next facts staged behind the order as byte 0 of
+-- each, for contracts of what works on them.
 -- Assumes nothing.
 use mathlib.Core.Path.{_≡_}
 use mathlib.Core.Bool.{Bool}
@@ -32,6 +32,7 @@ pub record KeptAround (n : ℕ) (entry exit : List ℕ) : Type 0 where
 abbrev pub staysAt : Circuit → (ℕ → Fact) → ℕ → Bool
 staysAt c s j = same (rule c s (getD (registerList c) j 0)) (s (getD (registerList c) j 0))
 
--- the fact of a byte 0 that was staged for a register: a register that is always one number is always its power-on value
+-- the fact of a byte 0 that was staged for a register: a register that is always one number is always its power-on
+-- value
 abbrev pub stagedFact : Record → ℕ → Fact
 stagedFact r byte = factOf byte (initial r)

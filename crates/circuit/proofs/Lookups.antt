@@ -21,7 +21,8 @@ use Rattle.circuit.specs.Operator.{operators, operatorOf, readOperator}
 use Rattle.circuit.specs.Reading.{kinds, kindNumber, readKind, inputKinds, inputKindOf, readInput}
 
 -- `is` and `none` are the two cases of what a byte reads as
-module _ {A B : Type 0} (is : A → B) (none : B) (same : (x y : A) → is x ≡ is y → x ≡ y) (differ : (x : A) → is x ≡ none → ⊥) where
+module _ {A B : Type 0} (is : A → B) (none : B) (same : (x y : A) → is x ≡ is y → x ≡ y)
+    (differ : (x : A) → is x ≡ none → ⊥) where
   lookup-is : (l : List A) (i : ℕ) (d x : A) → getD (map is l) i none ≡ is x → (i < length l) × (getD l i d ≡ x)
   lookup-is [] i d x e = absurd (differ x (sym e))
   lookup-is (y ∷ ys) zero d x e = (omega arith, same y x e)
@@ -42,10 +43,12 @@ module _ (code : ℕ) where
   operator-differ x e = let z : _≡_ {A = ℕ} 0 1 = cc in omega arith
 
   pub operator-is : (op : Operator) → readOperator code ≡ read-operator.Is op → (code < 9) × (operatorOf code ≡ op)
-  operator-is op e = lookup-is read-operator.Is read-operator.None operator-same operator-differ operators code ShiftRight op e
+  operator-is op e =
+      lookup-is read-operator.Is read-operator.None operator-same operator-differ operators code ShiftRight op e
 
   pub operator-none : readOperator code ≡ read-operator.None → (9 ≤ code) × (operatorOf code ≡ ShiftRight)
-  operator-none e = lookup-none read-operator.Is read-operator.None operator-same operator-differ operators code ShiftRight e
+  operator-none e =
+      lookup-none read-operator.Is read-operator.None operator-same operator-differ operators code ShiftRight e
 
 -- ---- kinds of input
 
@@ -84,5 +87,6 @@ kind-at (suc (suc (suc (suc (suc byte))))) h = absurd (omega arith)
 
 pub kind-is : (byte : ℕ) (k : Kind) → readKind byte ≡ read-kind.Is k → (byte ≤ 4) × (kindNumber k ≡ byte)
 kind-is byte k e =
-    let (h, q) = lookup-is read-kind.Is read-kind.None (kind-same byte) (kind-differ byte) kinds byte kind.Register k e in
+    let (h, q) =
+    lookup-is read-kind.Is read-kind.None (kind-same byte) (kind-differ byte) kinds byte kind.Register k e in
     (omega arith, ap kindNumber (sym q) ∙ kind-at byte h)

@@ -46,7 +46,8 @@ pub sub-unique : (w a b r : ℕ) → (r + b) % 2 ^ w ≡ a % 2 ^ w → r % 2 ^ w
 unfolding result
 sub-unique w a b r e =
     let rest = 2 ^ w - b % 2 ^ w in
-    let whole : r + b + rest ≡ r + b / 2 ^ w * 2 ^ w + 2 ^ w = omega (arith, div-add-mod' b (2 ^ w), mod-lt b (pow-pos w)) in
+    let whole : r + b + rest ≡ r + b / 2 ^ w * 2 ^ w + 2 ^ w =
+    omega (arith, div-add-mod' b (2 ^ w), mod-lt b (pow-pos w)) in
     sym (add-mul-mod-self-right r (b / 2 ^ w) (2 ^ w))
     ∙ sym (add-mod-right (r + b / 2 ^ w * 2 ^ w) (2 ^ w))
     ∙ ap (λ x. x % 2 ^ w) (sym whole)

@@ -116,7 +116,8 @@ module _ (f : Fields) (n : ℕ) where
         refused-zeros z = rw (le-ltb 4 (f .kind) kind, w, k, z)
 
         module _ (z : every (λ x. eqb x 0) (f .byte3 ∷ f .bytes10 ∷ unused (decode f) f) ≡ true) where
-          pub refused-variables : every (λ v. ltb v n) (uses (decode f)) ≡ false → Refused NoSuchVariable ≡ readRecord f n
+          pub refused-variables : every (λ v. ltb v n) (uses (decode f)) ≡ false
+              → Refused NoSuchVariable ≡ readRecord f n
           unfolding readRecord
           refused-variables u = rw (le-ltb 4 (f .kind) kind, w, k, z, u)
 

@@ -1,4 +1,5 @@
--- A list of facts as the bytes of a certificate: what is read of a variable is its fact, and storing a fact changes that one.
+-- A list of facts as the bytes of a certificate: what is read of a variable is its fact, and storing a fact changes
+-- that one.
 -- Assumes nothing.
 use mathlib.Core.Path.{_≡_, refl, sym, ap, _∙_, subst}
 use mathlib.Core.List.{List, [], _∷_, _++_, flatMap}
@@ -23,11 +24,13 @@ pub u32-bytes : (n : ℕ) → n < 2 ^ 32
     → n % 256 + 256 * (n / 256 % 256) + 65536 * (n / 65536 % 256) + 16777216 * (n / 16777216 % 256) ≡ n
 u32-bytes n h =
     let top : n / 16777216 % 256 ≡ n / 16777216 = omega arith in
-    let second : n / 256 % 256 + 256 * (n / 65536) ≡ n / 256 = rw (← div-div-eq-div-mul n 256 256) (mod-add-div (n / 256) 256) in
+    let second : n / 256 % 256 + 256 * (n / 65536) ≡ n / 256 =
+    rw (← div-div-eq-div-mul n 256 256) (mod-add-div (n / 256) 256) in
     let third : n / 65536 % 256 + 256 * (n / 16777216) ≡ n / 65536 =
     rw (← div-div-eq-div-mul n 65536 256) (mod-add-div (n / 65536) 256) in
     rw top
-    (horner n (n % 256) (n / 256 % 256) (n / 65536 % 256) (n / 16777216) (n / 256) (n / 65536) (mod-add-div n 256) second third)
+    (horner n (n % 256) (n / 256 % 256) (n / 65536 % 256) (n / 16777216) (n / 256) (n / 65536)
+    (mod-add-div n 256) second third)
 
 -- ---- one fact
 
@@ -66,7 +69,8 @@ sets-cons : (y : ℕ) (l vs : List ℕ) (i : ℕ) → sets (y ∷ l) (suc i) vs 
 sets-cons y l [] i = refl
 sets-cons y l (v ∷ vs) i = sets-cons y (set l i v) vs (suc i)
 
-sets-later : (f : Fact) (rest vs : List ℕ) (v : ℕ) → sets (factBytes f ++ rest) (suc v * 8) vs ≡ factBytes f ++ sets rest (v * 8) vs
+sets-later : (f : Fact) (rest vs : List ℕ) (v : ℕ)
+    → sets (factBytes f ++ rest) (suc v * 8) vs ≡ factBytes f ++ sets rest (v * 8) vs
 sets-later f rest vs v =
     rw eight
     (rw (sets-cons, sets-cons, sets-cons, sets-cons, sets-cons, sets-cons, sets-cons, sets-cons))
@@ -85,7 +89,8 @@ fact-stored (g ∷ fs) rest (suc v) f h =
 
 -- eight bytes written one after another
 pub eight-sets : (l : List ℕ) (at a b c d e f g h : ℕ)
-    → set (set (set (set (set (set (set (set l at a) (at + 1) b) (at + 2) c) (at + 3) d) (at + 4) e) (at + 5) f) (at + 6) g) (at + 7) h
+    → set (set (set (set (set (set (set (set l at a) (at + 1) b) (at + 2) c) (at + 3) d) (at + 4) e) (at + 5) f)
+    (at + 6) g) (at + 7) h
     ≡ sets l at (a ∷ b ∷ c ∷ d ∷ e ∷ f ∷ g ∷ h ∷ [])
 eight-sets l at a b c d e f g h = rw (add-one, add-two, add-three, add-four, add-five, add-six, add-seven)
 

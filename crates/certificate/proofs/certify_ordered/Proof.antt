@@ -27,8 +27,10 @@ settle-requires c κs =
 
 run-rounds-requires : tie.Need-run-rounds-requires
 run-rounds-requires c κs =
-    let x = c .before .before .before .before .before .before .before .before .before .before .before .before .before .before .args in
-    let p = c .before .before .before .before .before .before .before .before .before .before .before .before .before .before .pre in
+    let x =
+    c .before .before .before .before .before .before .before .before .before .before .before .before .before .before .args in
+    let p =
+    c .before .before .before .before .before .before .before .before .before .before .before .before .before .before .pre in
     let first = c .before .before .before .before .before .before .before .before .before .write-initial .ensures in
     let settled = c .before .before .before .before .settle .ensures in
     let C = circuit (x .t .now) (x .n) in (
@@ -44,7 +46,10 @@ run-rounds-requires c κs =
         listed = p .1 .1 .1 .1;
         written = written-self (settled .0);
       },
-      initial-settled (x .t .now) (x .n) (circuit-inside (x .t .now) (x .n) (p .1 .1 .0)) (ordered-no-loop C _ (p .1 .1 .1 .0)) (c .before .before .before .before .before .before .before .before .before .write-initial .last .1 .1 .0) (c .before .before .before .before .settle .last .1 .1 .1 .1 .0) (first .1) (settled .1),
+      initial-settled (x .t .now) (x .n) (circuit-inside (x .t .now) (x .n) (p .1 .1 .0))
+          (ordered-no-loop C _ (p .1 .1 .1 .0))
+          (c .before .before .before .before .before .before .before .before .before .write-initial .last .1 .1 .0)
+          (c .before .before .before .before .settle .last .1 .1 .1 .1 .0) (first .1) (settled .1),
     )
 
 mul-clear-part : tie.Need-mul-clear-part
@@ -61,16 +66,21 @@ same-length-2 c = search needs
 
 returns : tie.Need-returns
 returns c =
-    let x = c .before .before .before .before .before .before .before .before .before .before .before .before .before .before .before .before .before .before .before .before .before .before .before .args in
-    let first = c .before .before .before .before .before .before .before .before .before .before .before .before .before .before .before .before .before .before .write-initial .ensures in
-    let settled = c .before .before .before .before .before .before .before .before .before .before .before .before .before .settle .ensures in
+    let x =
+    c .before .before .before .before .before .before .before .before .before .before .before .before .before .before .before .before .before .before .before .before .before .before .before .args in
+    let first =
+    c .before .before .before .before .before .before .before .before .before .before .before .before .before .before .before .before .before .before .write-initial .ensures in
+    let settled =
+    c .before .before .before .before .before .before .before .before .before .before .before .before .before .settle .ensures in
     let run = c .before .before .before .before .before .before .before .before .run-rounds .ensures in (
       run .1 .1 .1,
       (
-        certificate-written (x .t .now) (x .n) (x .cells .now) _ (written-trans (first .0) (written-trans (settled .0) (run .1 .0))) (run .1 .1 .0),
+        certificate-written (x .t .now) (x .n) (x .cells .now) _
+            (written-trans (first .0) (written-trans (settled .0) (run .1 .0))) (run .1 .1 .0),
         (
           c .before .before .clear-part .ensures
-              ∙ ap (λ (l : List ℕ). replicate (x .n * 4) 0 ++ l) (kept-past (x .n) (x .n * 4) (x .scratch .now) _ (run .0) (omega arith)),
+              ∙ ap (λ (l : List ℕ). replicate (x .n * 4) 0 ++ l)
+              (kept-past (x .n) (x .n * 4) (x .scratch .now) _ (run .0) (omega arith)),
           λ v h. store-load (c .before .before .before .before .before .before .before .before .run-rounds .last .1 .1 .1 .1 .1 .0) (x .n) v h ∙ run .1 .1 .0 v h,
         ),
       ),

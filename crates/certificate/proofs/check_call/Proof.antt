@@ -16,7 +16,8 @@ enum-told-2 : tie.Need-enum-told-2
 enum-told-2 c = search needs
 
 returns : tie.Need-returns
-returns c = c .enum-told2 .given .1 ∙ check-stops _ _ _ _ _ (c .before .before .check-length .ensures) (c .enum-told2 .given .1)
+returns c =
+    c .enum-told2 .given .1 ∙ check-stops _ _ _ _ _ (c .before .before .check-length .ensures) (c .enum-told2 .given .1)
 
 mul-check-output : tie.Need-mul-check-output
 mul-check-output c = search needs
@@ -31,7 +32,11 @@ enum-told-4 : tie.Need-enum-told-4
 enum-told-4 c = search needs
 
 returns-2 : tie.Need-returns-2
-returns-2 c = c .enum-told4 .given .1 ∙ check-stops _ _ _ _ _ (c .before .before .check-output .ensures) (c .enum-told4 .given .1) ∙ sym (check-goes-on _ _ _ (c .before .before .before .before .before .check-length .ensures) (c .before .before .before .enum-told .given .1))
+returns-2 c =
+    c .enum-told4 .given .1 ∙ check-stops _ _ _ _ _ (c .before .before .check-output .ensures)
+    (c .enum-told4 .given .1) ∙ sym
+    (check-goes-on _ _ _ (c .before .before .before .before .before .check-length .ensures)
+    (c .before .before .before .enum-told .given .1))
 
 mul-check-scratch : tie.Need-mul-check-scratch
 mul-check-scratch c = search needs
@@ -49,8 +54,11 @@ returns-3 : tie.Need-returns-3
 returns-3 c =
     c .enum-told6 .given .1
     ∙ check-stops _ _ _ _ _ (c .before .before .check-scratch .ensures) (c .enum-told6 .given .1)
-    ∙ sym (check-goes-on _ _ _ (c .before .before .before .before .before .check-output .ensures) (c .before .before .before .enum-told3 .given .1))
-    ∙ sym (check-goes-on _ _ _ (c .before .before .before .before .before .before .before .before .check-length .ensures) (c .before .before .before .before .before .before .enum-told .given .1))
+    ∙ sym (check-goes-on _ _ _ (c .before .before .before .before .before .check-output .ensures)
+    (c .before .before .before .enum-told3 .given .1))
+    ∙ sym (check-goes-on _ _ _
+    (c .before .before .before .before .before .before .before .before .check-length .ensures)
+    (c .before .before .before .before .before .before .enum-told .given .1))
 
 check-records-requires : tie.Need-check-records-requires
 check-records-requires c κs = search needs
@@ -59,8 +67,11 @@ returns-4 : tie.Need-returns-4
 returns-4 c =
     c .check-records .ensures
     ∙ sym (check-goes-on _ _ _ (c .before .before .before .check-scratch .ensures) (c .before .enum-told5 .given .1))
-    ∙ sym (check-goes-on _ _ _ (c .before .before .before .before .before .before .check-output .ensures) (c .before .before .before .before .enum-told3 .given .1))
-    ∙ sym (check-goes-on _ _ _ (c .before .before .before .before .before .before .before .before .before .check-length .ensures) (c .before .before .before .before .before .before .before .enum-told .given .1))
+    ∙ sym (check-goes-on _ _ _ (c .before .before .before .before .before .before .check-output .ensures)
+    (c .before .before .before .before .enum-told3 .given .1))
+    ∙ sym (check-goes-on _ _ _
+    (c .before .before .before .before .before .before .before .before .before .check-length .ensures)
+    (c .before .before .before .before .before .before .before .enum-told .given .1))
 
 pub check-call-spec : {M : Type 1} → statement M
 check-call-spec =

@@ -20,10 +20,22 @@ loop-holds : tie.Need-loop-holds Inv-loop μ-loop
 loop-holds c = (search needs, refl)
 
 mul-scratch : tie.Need-mul-scratch Inv-loop μ-loop
-mul-scratch c = omega (arith, ap length (c .before .loop .inv .1), clear-length (c .before .before .args .scratch .now) (c .before .loop .i) (omega arith))
+mul-scratch c =
+    omega (
+      arith,
+      ap length (c .before .loop .inv .1),
+      clear-length (c .before .before .args .scratch .now)
+          (c .before .loop .i) (omega arith),
+    )
 
 slice-write-scratch : tie.Need-slice-write-scratch Inv-loop μ-loop
-slice-write-scratch c = omega (arith, ap length (c .before .loop .inv .1), clear-length (c .before .before .args .scratch .now) (c .before .loop .i) (omega arith))
+slice-write-scratch c =
+    omega (
+      arith,
+      ap length (c .before .loop .inv .1),
+      clear-length (c .before .before .args .scratch .now)
+          (c .before .loop .i) (omega arith),
+    )
 
 add-i : tie.Need-add-i Inv-loop μ-loop
 add-i c = omega arith
@@ -39,7 +51,9 @@ loop-again c = (
 )
 
 same-length : tie.Need-same-length Inv-loop μ-loop
-same-length c = ap length (c .before .loop .inv .1) ∙ clear-length (c .before .before .args .scratch .now) (c .before .loop .i) (omega arith)
+same-length c =
+    ap length (c .before .loop .inv .1) ∙ clear-length (c .before .before .args .scratch .now) (c .before .loop .i)
+    (omega arith)
 
 returns : tie.Need-returns Inv-loop μ-loop
 returns c =

@@ -30,16 +30,30 @@ always-or-marked-requires : tie.Need-always-or-marked-requires
 always-or-marked-requires c κs = search needs
 
 returns : tie.Need-returns
-returns c = simp (c .before .before .a .given .1, eq-eqb _ _ (c .if1 .taken), c .before .before .before .before .narrow2 .ensures)
+returns c =
+    simp (
+      c .before .before .a .given .1,
+      eq-eqb _ _
+          (c .if1 .taken),
+      c .before .before .before .before .narrow2 .ensures,
+    )
 
 returns-2 : tie.Need-returns-2
-returns-2 c = simp (c .before .before .a .given .1, ne-eqb _ _ (c .if1 .left), c .before .before .before .before .before .narrow .ensures)
+returns-2 c =
+    simp (
+      c .before .before .a .given .1,
+      ne-eqb _ _
+          (c .if1 .left),
+      c .before .before .before .before .before .narrow .ensures,
+    )
 
 returns-3 : tie.Need-returns-3
-returns-3 c = rw (c .before .enum-told .given .1, ← c .before .before .before .before .narrow .ensures, ← c .before .before .before .narrow2 .ensures) (c .join .ensures)
+returns-3 c =
+    rw (c .before .enum-told .given .1, ← c .before .before .before .before .narrow .ensures, ← c .before .before .before .narrow2 .ensures) (c .join .ensures)
 
 returns-4 : tie.Need-returns-4
-returns-4 c = rw (c .before .before .enum-told2 .given .1, ← c .before .before .before .before .before .narrow .ensures, ← c .before .before .before .before .narrow2 .ensures, ← c .before .join2 .ensures) (c .always-or-marked .ensures)
+returns-4 c =
+    rw (c .before .before .enum-told2 .given .1, ← c .before .before .before .before .before .narrow .ensures, ← c .before .before .before .before .narrow2 .ensures, ← c .before .join2 .ensures) (c .always-or-marked .ensures)
 
 pub multiplexer-rule-spec : {M : Type 1} → statement M
 multiplexer-rule-spec =

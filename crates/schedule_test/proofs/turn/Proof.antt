@@ -4,7 +4,7 @@ use mathlib.Core.Path.{sym, _∙_}
 use Prim.Native.Nat.{_*_}
 use native.Mathlib.Omega.{arith}
 use borrow.Author.Needs.{needs}
-use Rattle.schedule_test.proofs.Fits.{length-fits}
+use Rattle.circuit.proofs.Passing.{length-most}
 use Rattle.schedule_test.proofs.turn.Statement.{statement}
 use Rattle.schedule_test.proofs.turn.Tie as tie
 
@@ -48,7 +48,7 @@ read-and-report-requires : tie.Need-read-and-report-requires
 read-and-report-requires c κs =
     let k = c .before .before in
     let bytes = k .before .wide .result * 16 in
-    omega (arith, length-fits bytes (sym (k .check-length .ensures) ∙ c .enum-told2 .given .1))
+    omega (arith, length-most bytes (sym (k .check-length .ensures) ∙ c .enum-told2 .given .1))
 
 returns-3 : tie.Need-returns-3
 returns-3 c = search needs

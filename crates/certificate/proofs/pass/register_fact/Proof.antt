@@ -43,40 +43,68 @@ wide-requires c κs = search needs
 load-requires : tie.Need-load-requires
 load-requires c κs =
     let x = c .before .before .before .before .before .before .before .args in
-    let here = register-here (x .t .now) (x .n) (c .before .before .before .before .before .before .before .pre .1 .0) (x .v) (c .before .before .before .before .before .before .before .pre .0 .2) (c .before .before .before .before .record-at .result) (c .before .before .before .before .record-at .ensures) _ _ _ (c .before .before .r .given .1) in
+    let here =
+    register-here (x .t .now) (x .n) (c .before .before .before .before .before .before .before .pre .1 .0)
+    (x .v) (c .before .before .before .before .before .before .before .pre .0 .2)
+    (c .before .before .before .before .record-at .result)
+    (c .before .before .before .before .record-at .ensures) _ _ _ (c .before .before .r .given .1) in
     omega (arith, here .1, c .wide .ensures)
 
 register-rule-requires : tie.Need-register-rule-requires
 register-rule-requires c κs =
     let x = c .before .before .before .before .before .before .before .before .args in
-    let here = register-here (x .t .now) (x .n) (c .before .before .before .before .before .before .before .before .pre .1 .0) (x .v) (c .before .before .before .before .before .before .before .before .pre .0 .2) (c .before .before .before .before .before .record-at .result) (c .before .before .before .before .before .record-at .ensures) _ _ _ (c .before .before .before .r .given .1) in
+    let here =
+    register-here (x .t .now) (x .n)
+    (c .before .before .before .before .before .before .before .before .pre .1 .0) (x .v)
+    (c .before .before .before .before .before .before .before .before .pre .0 .2)
+    (c .before .before .before .before .before .record-at .result)
+    (c .before .before .before .before .before .record-at .ensures) _ _ _ (c .before .before .before .r .given .1) in
     here .0
 
 returns : tie.Need-returns
 returns c =
     let x = c .before .before .before .before .before .args in
-    absurd (no-register-input (sym (ap role (record-here (x .t .now) (x .n) (c .before .before .before .before .before .pre .1 .0) (x .v) (c .before .before .before .before .before .pre .0 .2) (c .before .before .record-at .result) (c .before .before .record-at .ensures) ∙ c .enum-told .given .1)) ∙ c .before .before .before .before .before .pre .1 .1))
+    absurd (no-register-input
+    (sym (ap role (record-here (x .t .now) (x .n) (c .before .before .before .before .before .pre .1 .0) (x .v)
+    (c .before .before .before .before .before .pre .0 .2) (c .before .before .record-at .result)
+    (c .before .before .record-at .ensures) ∙ c .enum-told .given .1)) ∙ c .before .before .before .before .before .pre .1 .1))
 
 returns-2 : tie.Need-returns-2
 returns-2 c =
     let x = c .before .before .before .before .before .args in
-    absurd (no-register-wire (sym (ap role (record-here (x .t .now) (x .n) (c .before .before .before .before .before .pre .1 .0) (x .v) (c .before .before .before .before .before .pre .0 .2) (c .before .before .record-at .result) (c .before .before .record-at .ensures) ∙ c .enum-told2 .given .1)) ∙ c .before .before .before .before .before .pre .1 .1))
+    absurd (no-register-wire
+    (sym (ap role (record-here (x .t .now) (x .n) (c .before .before .before .before .before .pre .1 .0) (x .v)
+    (c .before .before .before .before .before .pre .0 .2) (c .before .before .record-at .result)
+    (c .before .before .record-at .ensures) ∙ c .enum-told2 .given .1)) ∙ c .before .before .before .before .before .pre .1 .1))
 
 returns-3 : tie.Need-returns-3
 returns-3 c =
     let x = c .before .before .before .before .before .args in
-    absurd (no-register-wire (sym (ap role (record-here (x .t .now) (x .n) (c .before .before .before .before .before .pre .1 .0) (x .v) (c .before .before .before .before .before .pre .0 .2) (c .before .before .record-at .result) (c .before .before .record-at .ensures) ∙ c .enum-told3 .given .1)) ∙ c .before .before .before .before .before .pre .1 .1))
+    absurd (no-register-wire
+    (sym (ap role (record-here (x .t .now) (x .n) (c .before .before .before .before .before .pre .1 .0) (x .v)
+    (c .before .before .before .before .before .pre .0 .2) (c .before .before .record-at .result)
+    (c .before .before .record-at .ensures) ∙ c .enum-told3 .given .1)) ∙ c .before .before .before .before .before .pre .1 .1))
 
 returns-4 : tie.Need-returns-4
 returns-4 c =
     let x = c .before .before .before .before .before .args in
-    absurd (no-register-wire (sym (ap role (record-here (x .t .now) (x .n) (c .before .before .before .before .before .pre .1 .0) (x .v) (c .before .before .before .before .before .pre .0 .2) (c .before .before .record-at .result) (c .before .before .record-at .ensures) ∙ c .enum-told4 .given .1)) ∙ c .before .before .before .before .before .pre .1 .1))
+    absurd (no-register-wire
+    (sym (ap role (record-here (x .t .now) (x .n) (c .before .before .before .before .before .pre .1 .0) (x .v)
+    (c .before .before .before .before .before .pre .0 .2) (c .before .before .record-at .result)
+    (c .before .before .record-at .ensures) ∙ c .enum-told4 .given .1)) ∙ c .before .before .before .before .before .pre .1 .1))
 
 returns-5 : tie.Need-returns-5
 returns-5 c =
     let x = c .before .before .before .before .before .before .before .before .before .args in
-    let here = register-here (x .t .now) (x .n) (c .before .before .before .before .before .before .before .before .before .pre .1 .0) (x .v) (c .before .before .before .before .before .before .before .before .before .pre .0 .2) (c .before .before .before .before .before .before .record-at .result) (c .before .before .before .before .before .before .record-at .ensures) _ _ _ (c .before .before .before .before .r .given .1) in
-    let a = c .before .load .ensures ∙ ap (factAt (x .cells .now)) (c .before .before .wide .ensures) ∙ store-load (x .cells .now) (x .n) _ (here .1) in
+    let here =
+    register-here (x .t .now) (x .n)
+    (c .before .before .before .before .before .before .before .before .before .pre .1 .0) (x .v)
+    (c .before .before .before .before .before .before .before .before .before .pre .0 .2)
+    (c .before .before .before .before .before .before .record-at .result)
+    (c .before .before .before .before .before .before .record-at .ensures) _ _ _ (c .before .before .before .before .r .given .1) in
+    let a =
+    c .before .load .ensures ∙ ap (factAt (x .cells .now)) (c .before .before .wide .ensures) ∙ store-load
+    (x .cells .now) (x .n) _ (here .1) in
     c .register-rule .ensures ∙ rw a (here .2 (storeOf (x .cells .now) (x .n)))
 
 pub register-fact-spec : {M : Type 1} → statement M

@@ -18,7 +18,12 @@ abbrev μ-loop : tie.MeasureT-loop
 μ-loop t n scratch wires cells₀ i₀ cells i = wires - i
 
 loop-holds : tie.Need-loop-holds Inv-loop μ-loop
-loop-holds c = (search needs, none-passed (c .before .before .before .args .t .now) (c .before .before .before .args .n) (take (c .before .before .before .args .wires) (c .before .before .before .args .scratch .now)) (c .before .before .before .args .cells .now) (c .before .before .before .pre .1 .1 .1))
+loop-holds c = (
+  search needs,
+  none-passed (c .before .before .before .args .t .now) (c .before .before .before .args .n)
+      (take (c .before .before .before .args .wires) (c .before .before .before .args .scratch .now))
+      (c .before .before .before .args .cells .now) (c .before .before .before .pre .1 .1 .1),
+)
 
 mul-wide : tie.Need-mul-wide Inv-loop μ-loop
 mul-wide c = omega arith
@@ -33,15 +38,36 @@ wire-fact-requires : tie.Need-wire-fact-requires Inv-loop μ-loop
 wire-fact-requires c κs =
     let x = c .before .before .before .before .before .before .before .before .args in
     let p = c .before .before .before .before .before .before .before .before .pre in
-    let w = wire-below (x .t .now) (x .n) (x .scratch .now) (x .wires) (p .0 .2) (p .1 .1 .0) (c .before .before .before .before .loop .i) (c .before .wide .result) (c .before .before .before .loop-test .taken) (c .before .wide .ensures) in
-    ((p .0 .0, omega (arith, written-length (c .before .before .before .before .loop .inv .1 .written) (p .0 .1)), w .0), (p .1 .0, w .1))
+    let w =
+    wire-below (x .t .now) (x .n) (x .scratch .now) (x .wires) (p .0 .2) (p .1 .1 .0)
+    (c .before .before .before .before .loop .i) (c .before .wide .result)
+    (c .before .before .before .loop-test .taken) (c .before .wide .ensures) in (
+      (
+        p .0 .0,
+        omega (
+          arith,
+          written-length (c .before .before .before .before .loop .inv .1 .written)
+              (p .0 .1),
+        ),
+        w .0,
+      ),
+      (p .1 .0, w .1),
+    )
 
 store-requires : tie.Need-store-requires Inv-loop μ-loop
 store-requires c κs =
     let x = c .before .before .before .before .before .before .before .before .before .before .args in
     let p = c .before .before .before .before .before .before .before .before .before .before .pre in
-    let w = wire-below (x .t .now) (x .n) (x .scratch .now) (x .wires) (p .0 .2) (p .1 .1 .0) (c .before .before .before .before .before .before .loop .i) (c .before .before .before .wide .result) (c .before .before .before .before .before .loop-test .taken) (c .before .before .before .wide .ensures) in
-    omega (arith, written-length (c .before .before .before .before .before .before .loop .inv .1 .written) (p .0 .1), w .0)
+    let w =
+    wire-below (x .t .now) (x .n) (x .scratch .now) (x .wires) (p .0 .2) (p .1 .1 .0)
+    (c .before .before .before .before .before .before .loop .i) (c .before .before .before .wide .result)
+    (c .before .before .before .before .before .loop-test .taken) (c .before .before .before .wide .ensures) in
+    omega (
+      arith,
+      written-length (c .before .before .before .before .before .before .loop .inv .1 .written)
+          (p .0 .1),
+      w .0,
+    )
 
 add-i : tie.Need-add-i Inv-loop μ-loop
 add-i c = omega arith
@@ -51,17 +77,23 @@ loop-less c = omega arith
 
 loop-again : tie.Need-loop-again Inv-loop μ-loop
 loop-again c =
-    let x = c .before .before .before .before .before .before .before .before .before .before .before .before .before .args in
-    let p = c .before .before .before .before .before .before .before .before .before .before .before .before .before .pre in
+    let x =
+    c .before .before .before .before .before .before .before .before .before .before .before .before .before .args in
+    let p =
+    c .before .before .before .before .before .before .before .before .before .before .before .before .before .pre in
     let cells = c .before .before .before .before .before .before .before .before .before .loop .cells in
     let i = c .before .before .before .before .before .before .before .before .before .loop .i in
     let v = c .before .before .before .before .before .before .wide .result in
     let f = c .before .before .before .before .wire-fact .result in (
       omega arith,
-      subst (λ (l : List ℕ). Passed-wires (x .t .now) (x .n) (take (x .wires) (x .scratch .now)) (x .cells .now) l (i + 1))
+      subst (λ (l : List ℕ). Passed-wires (x .t .now) (x .n) (take (x .wires) (x .scratch .now)) (x .cells .now) l
+          (i + 1))
           (sym (c .before .before .store .ensures .0))
-          (one-passed (x .t .now) (x .n) (x .scratch .now) (x .wires) (p .0 .2) (p .1 .1 .0) (x .cells .now) cells i (c .before .before .before .before .before .before .before .before .before .loop .inv .1) v f
-          (c .before .before .before .before .before .before .before .before .loop-test .taken) (c .before .before .before .before .before .before .wide .ensures) (c .before .before .before .before .wire-fact .ensures) (c .before .before .store .ensures .1)),
+          (one-passed (x .t .now) (x .n) (x .scratch .now) (x .wires) (p .0 .2) (p .1 .1 .0) (x .cells .now) cells i
+          (c .before .before .before .before .before .before .before .before .before .loop .inv .1) v f
+          (c .before .before .before .before .before .before .before .before .loop-test .taken)
+          (c .before .before .before .before .before .before .wide .ensures)
+          (c .before .before .before .before .wire-fact .ensures) (c .before .before .store .ensures .1)),
     )
 
 same-length : tie.Need-same-length Inv-loop μ-loop
@@ -73,7 +105,8 @@ returns c =
     let p = c .before .before .before .before .before .pre in
     let inv = c .before .loop .inv in (
       inv .1 .written,
-      all-passed (x .t .now) (x .n) (x .scratch .now) (x .wires) (p .0 .2) (p .1 .1 .0) (x .cells .now) (c .before .loop .cells) (c .before .loop .i)
+      all-passed (x .t .now) (x .n) (x .scratch .now) (x .wires) (p .0 .2) (p .1 .1 .0) (x .cells .now)
+          (c .before .loop .cells) (c .before .loop .i)
           (inv .1) (p .1 .0) (omega arith) (inv .0),
     )
 

@@ -37,7 +37,11 @@ wide-requires c κs = search needs
 load-requires : tie.Need-load-requires
 load-requires c κs =
     let x = c .before .before .before .before .before .before .before .args in
-    let here = operator-here (x .t .now) (x .n) (c .before .before .before .before .before .before .before .pre .1 .0) (x .v) (c .before .before .before .before .before .before .before .pre .0 .2) (c .before .before .before .before .record-at .result) (c .before .before .before .before .record-at .ensures) _ _ _ _ (c .before .before .r2 .given .1) in
+    let here =
+    operator-here (x .t .now) (x .n) (c .before .before .before .before .before .before .before .pre .1 .0)
+    (x .v) (c .before .before .before .before .before .before .before .pre .0 .2)
+    (c .before .before .before .before .record-at .result)
+    (c .before .before .before .before .record-at .ensures) _ _ _ _ (c .before .before .r2 .given .1) in
     omega (arith, here .1, c .wide .ensures)
 
 wide-requires-2 : tie.Need-wide-requires-2
@@ -46,13 +50,23 @@ wide-requires-2 c κs = search needs
 load-requires-2 : tie.Need-load-requires-2
 load-requires-2 c κs =
     let x = c .before .before .before .before .before .before .before .before .before .args in
-    let here = operator-here (x .t .now) (x .n) (c .before .before .before .before .before .before .before .before .before .pre .1 .0) (x .v) (c .before .before .before .before .before .before .before .before .before .pre .0 .2) (c .before .before .before .before .before .before .record-at .result) (c .before .before .before .before .before .before .record-at .ensures) _ _ _ _ (c .before .before .before .before .r2 .given .1) in
+    let here =
+    operator-here (x .t .now) (x .n)
+    (c .before .before .before .before .before .before .before .before .before .pre .1 .0) (x .v)
+    (c .before .before .before .before .before .before .before .before .before .pre .0 .2)
+    (c .before .before .before .before .before .before .record-at .result)
+    (c .before .before .before .before .before .before .record-at .ensures) _ _ _ _ (c .before .before .before .before .r2 .given .1) in
     omega (arith, here .2, c .wide2 .ensures)
 
 operator-rule-requires : tie.Need-operator-rule-requires
 operator-rule-requires c κs =
     let x = c .before .before .before .before .before .before .before .before .before .before .args in
-    let here = operator-here (x .t .now) (x .n) (c .before .before .before .before .before .before .before .before .before .before .pre .1 .0) (x .v) (c .before .before .before .before .before .before .before .before .before .before .pre .0 .2) (c .before .before .before .before .before .before .before .record-at .result) (c .before .before .before .before .before .before .before .record-at .ensures) _ _ _ _ (c .before .before .before .before .before .r2 .given .1) in
+    let here =
+    operator-here (x .t .now) (x .n)
+    (c .before .before .before .before .before .before .before .before .before .before .pre .1 .0) (x .v)
+    (c .before .before .before .before .before .before .before .before .before .before .pre .0 .2)
+    (c .before .before .before .before .before .before .before .record-at .result)
+    (c .before .before .before .before .before .before .before .record-at .ensures) _ _ _ _ (c .before .before .before .before .before .r2 .given .1) in
     here .0
 
 enum-known-r-3 : tie.Need-enum-known-r-3
@@ -64,7 +78,11 @@ wide-requires-3 c κs = search needs
 load-requires-3 : tie.Need-load-requires-3
 load-requires-3 c κs =
     let x = c .before .before .before .before .before .before .before .args in
-    let here = multiplexer-here (x .t .now) (x .n) (c .before .before .before .before .before .before .before .pre .1 .0) (x .v) (c .before .before .before .before .before .before .before .pre .0 .2) (c .before .before .before .before .record-at .result) (c .before .before .before .before .record-at .ensures) _ _ _ _ (c .before .before .r3 .given .1) in
+    let here =
+    multiplexer-here (x .t .now) (x .n) (c .before .before .before .before .before .before .before .pre .1 .0)
+    (x .v) (c .before .before .before .before .before .before .before .pre .0 .2)
+    (c .before .before .before .before .record-at .result)
+    (c .before .before .before .before .record-at .ensures) _ _ _ _ (c .before .before .r3 .given .1) in
     omega (arith, here .1, c .wide3 .ensures)
 
 wide-requires-4 : tie.Need-wide-requires-4
@@ -73,7 +91,12 @@ wide-requires-4 c κs = search needs
 load-requires-4 : tie.Need-load-requires-4
 load-requires-4 c κs =
     let x = c .before .before .before .before .before .before .before .before .before .args in
-    let here = multiplexer-here (x .t .now) (x .n) (c .before .before .before .before .before .before .before .before .before .pre .1 .0) (x .v) (c .before .before .before .before .before .before .before .before .before .pre .0 .2) (c .before .before .before .before .before .before .record-at .result) (c .before .before .before .before .before .before .record-at .ensures) _ _ _ _ (c .before .before .before .before .r3 .given .1) in
+    let here =
+    multiplexer-here (x .t .now) (x .n)
+    (c .before .before .before .before .before .before .before .before .before .pre .1 .0) (x .v)
+    (c .before .before .before .before .before .before .before .before .before .pre .0 .2)
+    (c .before .before .before .before .before .before .record-at .result)
+    (c .before .before .before .before .before .before .record-at .ensures) _ _ _ _ (c .before .before .before .before .r3 .given .1) in
     omega (arith, here .2, c .wide4 .ensures)
 
 wide-requires-5 : tie.Need-wide-requires-5
@@ -82,13 +105,18 @@ wide-requires-5 c κs = search needs
 load-requires-5 : tie.Need-load-requires-5
 load-requires-5 c κs =
     let x = c .before .before .before .before .before .before .before .before .before .before .before .args in
-    let here = multiplexer-here (x .t .now) (x .n) (c .before .before .before .before .before .before .before .before .before .before .before .pre .1 .0) (x .v) (c .before .before .before .before .before .before .before .before .before .before .before .pre .0 .2) (c .before .before .before .before .before .before .before .before .record-at .result) (c .before .before .before .before .before .before .before .before .record-at .ensures) _ _ _ _ (c .before .before .before .before .before .before .r3 .given .1) in
+    let here =
+    multiplexer-here (x .t .now) (x .n)
+    (c .before .before .before .before .before .before .before .before .before .before .before .pre .1 .0)
+    (x .v) (c .before .before .before .before .before .before .before .before .before .before .before .pre .0 .2) (c .before .before .before .before .before .before .before .before .record-at .result) (c .before .before .before .before .before .before .before .before .record-at .ensures) _ _ _ _ (c .before .before .before .before .before .before .r3 .given .1) in
     omega (arith, here .3, c .wide5 .ensures)
 
 multiplexer-rule-requires : tie.Need-multiplexer-rule-requires
 multiplexer-rule-requires c κs =
     let x = c .before .before .before .before .before .before .before .before .before .before .before .before .args in
-    let here = multiplexer-here (x .t .now) (x .n) (c .before .before .before .before .before .before .before .before .before .before .before .before .pre .1 .0) (x .v) (c .before .before .before .before .before .before .before .before .before .before .before .before .pre .0 .2) (c .before .before .before .before .before .before .before .before .before .record-at .result) (c .before .before .before .before .before .before .before .before .before .record-at .ensures) _ _ _ _ (c .before .before .before .before .before .before .before .r3 .given .1) in
+    let here =
+    multiplexer-here (x .t .now) (x .n)
+    (c .before .before .before .before .before .before .before .before .before .before .before .before .pre .1 .0) (x .v) (c .before .before .before .before .before .before .before .before .before .before .before .before .pre .0 .2) (c .before .before .before .before .before .before .before .before .before .record-at .result) (c .before .before .before .before .before .before .before .before .before .record-at .ensures) _ _ _ _ (c .before .before .before .before .before .before .before .r3 .given .1) in
     here .0
 
 enum-told-2 : tie.Need-enum-told-2
@@ -97,34 +125,59 @@ enum-told-2 c = search needs
 returns : tie.Need-returns
 returns c =
     let x = c .before .before .before .before .before .args in
-    absurd (no-wire-input (sym (ap role (record-here (x .t .now) (x .n) (c .before .before .before .before .before .pre .1 .0) (x .v) (c .before .before .before .before .before .pre .0 .2) (c .before .before .record-at .result) (c .before .before .record-at .ensures) ∙ c .enum-told .given .1)) ∙ c .before .before .before .before .before .pre .1 .1))
+    absurd (no-wire-input
+    (sym (ap role (record-here (x .t .now) (x .n) (c .before .before .before .before .before .pre .1 .0) (x .v)
+    (c .before .before .before .before .before .pre .0 .2) (c .before .before .record-at .result)
+    (c .before .before .record-at .ensures) ∙ c .enum-told .given .1)) ∙ c .before .before .before .before .before .pre .1 .1))
 
 returns-2 : tie.Need-returns-2
 returns-2 c =
     let x = c .before .before .before .before .before .before .args in
-    constant-here (x .t .now) (x .n) (c .before .before .before .before .before .before .pre .1 .0) (x .v) (c .before .before .before .before .before .before .pre .0 .2) (c .before .before .before .record-at .result) (c .before .before .before .record-at .ensures) _ _ (c .before .r .given .1) (storeOf (x .cells .now) (x .n))
+    constant-here (x .t .now) (x .n) (c .before .before .before .before .before .before .pre .1 .0) (x .v)
+    (c .before .before .before .before .before .before .pre .0 .2) (c .before .before .before .record-at .result)
+    (c .before .before .before .record-at .ensures) _ _ (c .before .r .given .1) (storeOf (x .cells .now) (x .n))
 
 returns-3 : tie.Need-returns-3
 returns-3 c =
     let x = c .before .before .before .before .before .before .before .before .before .before .before .args in
-    let here = operator-here (x .t .now) (x .n) (c .before .before .before .before .before .before .before .before .before .before .before .pre .1 .0) (x .v) (c .before .before .before .before .before .before .before .before .before .before .before .pre .0 .2) (c .before .before .before .before .before .before .before .before .record-at .result) (c .before .before .before .before .before .before .before .before .record-at .ensures) _ _ _ _ (c .before .before .before .before .before .before .r2 .given .1) in
-    let a = c .before .before .before .load .ensures ∙ ap (factAt (x .cells .now)) (c .before .before .before .before .wide .ensures) ∙ store-load (x .cells .now) (x .n) _ (here .1) in
-    let b = c .before .load2 .ensures ∙ ap (factAt (x .cells .now)) (c .before .before .wide2 .ensures) ∙ store-load (x .cells .now) (x .n) _ (here .2) in
+    let here =
+    operator-here (x .t .now) (x .n)
+    (c .before .before .before .before .before .before .before .before .before .before .before .pre .1 .0)
+    (x .v) (c .before .before .before .before .before .before .before .before .before .before .before .pre .0 .2) (c .before .before .before .before .before .before .before .before .record-at .result) (c .before .before .before .before .before .before .before .before .record-at .ensures) _ _ _ _ (c .before .before .before .before .before .before .r2 .given .1) in
+    let a =
+    c .before .before .before .load .ensures ∙ ap (factAt (x .cells .now))
+    (c .before .before .before .before .wide .ensures) ∙ store-load (x .cells .now) (x .n) _ (here .1) in
+    let b =
+    c .before .load2 .ensures ∙ ap (factAt (x .cells .now)) (c .before .before .wide2 .ensures) ∙ store-load
+    (x .cells .now) (x .n) _ (here .2) in
     c .operator-rule .ensures ∙ rw (a, b) (here .3 (storeOf (x .cells .now) (x .n)))
 
 returns-4 : tie.Need-returns-4
 returns-4 c =
-    let x = c .before .before .before .before .before .before .before .before .before .before .before .before .before .args in
-    let here = multiplexer-here (x .t .now) (x .n) (c .before .before .before .before .before .before .before .before .before .before .before .before .before .pre .1 .0) (x .v) (c .before .before .before .before .before .before .before .before .before .before .before .before .before .pre .0 .2) (c .before .before .before .before .before .before .before .before .before .before .record-at .result) (c .before .before .before .before .before .before .before .before .before .before .record-at .ensures) _ _ _ _ (c .before .before .before .before .before .before .before .before .r3 .given .1) in
-    let a = c .before .before .before .before .before .load3 .ensures ∙ ap (factAt (x .cells .now)) (c .before .before .before .before .before .before .wide3 .ensures) ∙ store-load (x .cells .now) (x .n) _ (here .1) in
-    let b = c .before .before .before .load4 .ensures ∙ ap (factAt (x .cells .now)) (c .before .before .before .before .wide4 .ensures) ∙ store-load (x .cells .now) (x .n) _ (here .2) in
-    let d = c .before .load5 .ensures ∙ ap (factAt (x .cells .now)) (c .before .before .wide5 .ensures) ∙ store-load (x .cells .now) (x .n) _ (here .3) in
+    let x =
+    c .before .before .before .before .before .before .before .before .before .before .before .before .before .args in
+    let here =
+    multiplexer-here (x .t .now) (x .n)
+    (c .before .before .before .before .before .before .before .before .before .before .before .before .before .pre .1 .0) (x .v) (c .before .before .before .before .before .before .before .before .before .before .before .before .before .pre .0 .2) (c .before .before .before .before .before .before .before .before .before .before .record-at .result) (c .before .before .before .before .before .before .before .before .before .before .record-at .ensures) _ _ _ _ (c .before .before .before .before .before .before .before .before .r3 .given .1) in
+    let a =
+    c .before .before .before .before .before .load3 .ensures ∙ ap (factAt (x .cells .now))
+    (c .before .before .before .before .before .before .wide3 .ensures) ∙ store-load (x .cells .now) (x .n) _
+    (here .1) in
+    let b =
+    c .before .before .before .load4 .ensures ∙ ap (factAt (x .cells .now))
+    (c .before .before .before .before .wide4 .ensures) ∙ store-load (x .cells .now) (x .n) _ (here .2) in
+    let d =
+    c .before .load5 .ensures ∙ ap (factAt (x .cells .now)) (c .before .before .wide5 .ensures) ∙ store-load
+    (x .cells .now) (x .n) _ (here .3) in
     c .multiplexer-rule .ensures ∙ rw (a, b, d) (here .4 (storeOf (x .cells .now) (x .n)))
 
 returns-5 : tie.Need-returns-5
 returns-5 c =
     let x = c .before .before .before .before .before .args in
-    absurd (no-wire-register (sym (ap role (record-here (x .t .now) (x .n) (c .before .before .before .before .before .pre .1 .0) (x .v) (c .before .before .before .before .before .pre .0 .2) (c .before .before .record-at .result) (c .before .before .record-at .ensures) ∙ c .enum-told2 .given .1)) ∙ c .before .before .before .before .before .pre .1 .1))
+    absurd (no-wire-register
+    (sym (ap role (record-here (x .t .now) (x .n) (c .before .before .before .before .before .pre .1 .0) (x .v)
+    (c .before .before .before .before .before .pre .0 .2) (c .before .before .record-at .result)
+    (c .before .before .record-at .ensures) ∙ c .enum-told2 .given .1)) ∙ c .before .before .before .before .before .pre .1 .1))
 
 pub wire-fact-spec : {M : Type 1} → statement M
 wire-fact-spec =

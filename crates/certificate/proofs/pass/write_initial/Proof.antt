@@ -31,7 +31,8 @@ initial-fact-requires : tie.Need-initial-fact-requires Inv-loop μ-loop
 initial-fact-requires c κs = search needs
 
 store-requires : tie.Need-store-requires Inv-loop μ-loop
-store-requires c κs = omega (arith, begun-length _ _ _ _ (c .before .before .before .before .loop .inv .1) (omega arith))
+store-requires c κs =
+    omega (arith, begun-length _ _ _ _ (c .before .before .before .before .loop .inv .1) (omega arith))
 
 add-i : tie.Need-add-i Inv-loop μ-loop
 add-i c = omega arith
@@ -47,12 +48,15 @@ loop-again c =
     let s : ℕ → Fact = λ v. initialFact (recordOf (circuit (x .t .now) (x .n)) v) in
     let is : c .before .before .before .initial-fact .result ≡ s i =
     c .before .before .before .initial-fact .ensures
-    ∙ ap initialFact (c .before .before .before .before .record-at .ensures ∙ sym (circuit-record (x .t .now) (x .n) i (c .before .before .before .before .before .before .loop-test .taken))) in
+    ∙ ap initialFact (c .before .before .before .before .record-at .ensures ∙ sym
+    (circuit-record (x .t .now) (x .n) i (c .before .before .before .before .before .before .loop-test .taken))) in
     let stored : c .before .before .store .last .0 ≡ sets cells (i * 8) (factBytes (s i)) =
     c .before .before .store .ensures .0 ∙ ap (λ (f : Fact). sets cells (i * 8) (factBytes f)) is in (
       omega arith,
       subst (λ (l : List ℕ). Begun s (i + 1) (x .cells .now) l) (sym stored)
-          (begun-more s i (x .cells .now) cells (c .before .before .before .before .before .before .before .loop .inv .1) (omega arith) (subst (λ (f : Fact). factNumber f < 2 ^ 32) is (c .before .before .store .ensures .1))),
+          (begun-more s i (x .cells .now) cells
+          (c .before .before .before .before .before .before .before .loop .inv .1) (omega arith)
+          (subst (λ (f : Fact). factNumber f < 2 ^ 32) is (c .before .before .store .ensures .1))),
     )
 
 same-length : tie.Need-same-length Inv-loop μ-loop

@@ -44,7 +44,10 @@ record-at-requires c κs =
     let p = c .before .before .before .before .before .before .before .pre in
     let j = c .before .before .before .loop .j in
     let inv = c .before .before .before .loop .inv in
-    let here = listed-register (x .t .now) (x .n) (x .scratch .now) (x .scratch .now) (x .first) j (c .wide .result) (kept-same (x .n) (x .scratch .now)) (p .1 .1 .1 .0) (omega (arith, c .before .before .loop-test .taken)) (omega (arith, c .before .before .loop-test .taken)) (c .wide .ensures) in
+    let here =
+    listed-register (x .t .now) (x .n) (x .scratch .now) (x .scratch .now) (x .first) j (c .wide .result)
+    (kept-same (x .n) (x .scratch .now)) (p .1 .1 .1 .0) (omega (arith, c .before .before .loop-test .taken))
+    (omega (arith, c .before .before .loop-test .taken)) (c .wide .ensures) in
     omega (arith, here .1)
 
 add-staged-fact : tie.Need-add-staged-fact Inv-loop μ-loop
@@ -65,7 +68,12 @@ store-requires c κs =
     let p = c .before .before .before .before .before .before .before .before .before .before .before .pre in
     let j = c .before .before .before .before .before .before .before .loop .j in
     let inv = c .before .before .before .before .before .before .before .loop .inv in
-    let here = listed-register (x .t .now) (x .n) (x .scratch .now) (x .scratch .now) (x .first) j (c .before .before .before .before .wide .result) (kept-same (x .n) (x .scratch .now)) (p .1 .1 .1 .0) (omega (arith, c .before .before .before .before .before .before .loop-test .taken)) (omega (arith, c .before .before .before .before .before .before .loop-test .taken)) (c .before .before .before .before .wide .ensures) in
+    let here =
+    listed-register (x .t .now) (x .n) (x .scratch .now) (x .scratch .now) (x .first) j
+    (c .before .before .before .before .wide .result) (kept-same (x .n) (x .scratch .now)) (p .1 .1 .1 .0)
+    (omega (arith, c .before .before .before .before .before .before .loop-test .taken))
+    (omega (arith, c .before .before .before .before .before .before .loop-test .taken))
+    (c .before .before .before .before .wide .ensures) in
     omega (arith, here .1, written-length (inv .1 .written) (p .0 .1))
 
 add-j : tie.Need-add-j Inv-loop μ-loop
@@ -76,21 +84,32 @@ loop-less c = omega arith
 
 loop-again : tie.Need-loop-again Inv-loop μ-loop
 loop-again c =
-    let x = c .before .before .before .before .before .before .before .before .before .before .before .before .before .before .args in
-    let p = c .before .before .before .before .before .before .before .before .before .before .before .before .before .before .pre in
+    let x =
+    c .before .before .before .before .before .before .before .before .before .before .before .before .before .before .args in
+    let p =
+    c .before .before .before .before .before .before .before .before .before .before .before .before .before .before .pre in
     let j = c .before .before .before .before .before .before .before .before .before .before .loop .j in
     let inv = c .before .before .before .before .before .before .before .before .before .before .loop .inv in
-    let here = listed-register (x .t .now) (x .n) (x .scratch .now) (x .scratch .now) (x .first) j (c .before .before .before .before .before .before .before .wide .result) (kept-same (x .n) (x .scratch .now)) (p .1 .1 .1 .0) (omega (arith, c .before .before .before .before .before .before .before .before .before .loop-test .taken)) (omega (arith, c .before .before .before .before .before .before .before .before .before .loop-test .taken)) (c .before .before .before .before .before .before .before .wide .ensures) in
+    let here =
+    listed-register (x .t .now) (x .n) (x .scratch .now) (x .scratch .now) (x .first) j
+    (c .before .before .before .before .before .before .before .wide .result)
+    (kept-same (x .n) (x .scratch .now)) (p .1 .1 .1 .0)
+    (omega (arith, c .before .before .before .before .before .before .before .before .before .loop-test .taken))
+    (omega (arith, c .before .before .before .before .before .before .before .before .before .loop-test .taken)) (c .before .before .before .before .before .before .before .wide .ensures) in
     let C = circuit (x .t .now) (x .n) in
     let s = storeOf (x .cells .now) (x .n) in
     let v = c .before .before .before .before .before .before .before .wide .result in
     let f = c .before .before .before .before .staged-fact .result in
     let is : f ≡ rule C s v =
-    staged-rule C s v _ (c .before .before .before .before .before .before .record-at .result) f (here .2) (c .before .before .before .before .before .before .record-at .ensures ∙ sym (circuit-record (x .t .now) (x .n) v (here .1)))
+    staged-rule C s v _ (c .before .before .before .before .before .before .record-at .result) f (here .2)
+    (c .before .before .before .before .before .before .record-at .ensures ∙ sym
+    (circuit-record (x .t .now) (x .n) v (here .1)))
     (p .1 .1 .1 .1 .0 j (c .before .before .before .before .before .before .before .before .before .loop-test .taken) ∙ ap (λ (u : ℕ). factByte (rule C s u)) (sym (here .0))) (c .before .before .before .before .staged-fact .ensures) in (
       omega arith,
       subst (λ (l : List ℕ). Committed C (x .n) (x .cells .now) l (j + 1)) (sym (c .before .before .store .ensures .0))
-          (one-committed C (x .n) (circuit-length (x .t .now) (x .n)) (x .cells .now) (c .before .before .before .before .before .before .before .before .before .before .loop .cells) j (inv .1) v f
+          (one-committed C (x .n) (circuit-length (x .t .now) (x .n)) (x .cells .now)
+          (c .before .before .before .before .before .before .before .before .before .before .loop .cells) j
+          (inv .1) v f
           (omega (arith, c .before .before .before .before .before .before .before .before .before .loop-test .taken)) (here .0) is (c .before .before .store .ensures .1)),
     )
 
@@ -102,7 +121,8 @@ returns c =
     let x = c .before .before .before .before .before .args in
     let inv = c .before .loop .inv in (
       inv .1 .written,
-      all-committed (circuit (x .t .now) (x .n)) (x .n) (circuit-length (x .t .now) (x .n)) (x .cells .now) (c .before .loop .cells) (c .before .loop .j)
+      all-committed (circuit (x .t .now) (x .n)) (x .n) (circuit-length (x .t .now) (x .n)) (x .cells .now)
+          (c .before .loop .cells) (c .before .loop .j)
           (inv .1) (omega arith) (omega arith),
     )
 

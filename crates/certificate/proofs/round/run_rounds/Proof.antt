@@ -36,34 +36,55 @@ commit-requires c κs =
 
 settle-requires : tie.Need-settle-requires Inv-loop μ-loop
 settle-requires c κs =
-    let r₀ = c .before .before .before .before .before .before .before .before .before .before .before .before .before .loop .inv .ready in
-    let r₁ = ready-kept r₀ (c .before .before .before .before .before .before .before .before .before .before .stage .ensures .0) (r₀ .written) in
+    let r₀ =
+    c .before .before .before .before .before .before .before .before .before .before .before .before .before .loop .inv .ready in
+    let r₁ =
+    ready-kept r₀ (c .before .before .before .before .before .before .before .before .before .before .stage .ensures .0) (r₀ .written) in
     let r = ready-kept r₁ (kept-same _ _) (c .before .before .before .before .commit .ensures .0) in
     ((r .table, r .output, omega (arith, r .room, r .fits)), (r .valid, (r .order, r .written)))
 
 add-count : tie.Need-add-count Inv-loop μ-loop
 add-count c =
-    let inv = c .before .before .before .before .before .before .before .before .before .before .before .before .before .before .before .before .loop .inv in
-    omega (arith, rounds-small (inv .ready), still-running inv _ (c .before .before .before .before .before .before .before .before .before .before .before .before .before .stage .ensures .1 .1) (c .before .before .before .before .before .before .before .before .before .before .if1 .left))
+    let inv =
+    c .before .before .before .before .before .before .before .before .before .before .before .before .before .before .before .before .loop .inv in
+    omega (
+      arith,
+      rounds-small (inv .ready),
+      still-running inv _
+          (c .before .before .before .before .before .before .before .before .before .before .before .before .before .stage .ensures .1 .1) (c .before .before .before .before .before .before .before .before .before .before .if1 .left),
+    )
 
 loop-less : tie.Need-loop-less Inv-loop μ-loop
 loop-less c =
-    let inv = c .before .before .before .before .before .before .before .before .before .before .before .before .before .before .before .before .loop .inv in
-    omega (arith, still-running inv _ (c .before .before .before .before .before .before .before .before .before .before .before .before .before .stage .ensures .1 .1) (c .before .before .before .before .before .before .before .before .before .before .if1 .left))
+    let inv =
+    c .before .before .before .before .before .before .before .before .before .before .before .before .before .before .before .before .loop .inv in
+    omega (
+      arith,
+      still-running inv _
+          (c .before .before .before .before .before .before .before .before .before .before .before .before .before .stage .ensures .1 .1) (c .before .before .before .before .before .before .before .before .before .before .if1 .left),
+    )
 
 loop-again : tie.Need-loop-again Inv-loop μ-loop
 loop-again c =
-    let inv = c .before .before .before .before .before .before .before .before .before .before .before .before .before .before .before .before .loop .inv in
-    let stage = c .before .before .before .before .before .before .before .before .before .before .before .before .before .stage .ensures in
+    let inv =
+    c .before .before .before .before .before .before .before .before .before .before .before .before .before .before .before .before .loop .inv in
+    let stage =
+    c .before .before .before .before .before .before .before .before .before .before .before .before .before .stage .ensures in
     let commit = c .before .before .before .before .before .before .before .commit .ensures in
     let settle = c .before .before .settle .ensures in
-    run-next inv (stage .0) (commit .0) (settle .0) (still-running inv _ (stage .1 .1) (c .before .before .before .before .before .before .before .before .before .before .if1 .left)) (commit .1) (settle .1)
+    run-next inv (stage .0) (commit .0) (settle .0)
+    (still-running inv _ (stage .1 .1)
+    (c .before .before .before .before .before .before .before .before .before .before .if1 .left)) (commit .1)
+    (settle .1)
 
 same-length : tie.Need-same-length Inv-loop μ-loop
-same-length c = c .before .before .before .stage .ensures .0 .long ∙ c .before .before .before .before .before .before .loop .inv .kept .long
+same-length c =
+    c .before .before .before .stage .ensures .0 .long ∙ c .before .before .before .before .before .before .loop .inv .kept .long
 
 same-length-2 : tie.Need-same-length-2 Inv-loop μ-loop
-same-length-2 c = written-length (c .before .before .before .before .before .before .loop .inv .written) (c .before .before .before .before .before .before .before .before .before .before .pre .0 .output)
+same-length-2 c =
+    written-length (c .before .before .before .before .before .before .loop .inv .written)
+    (c .before .before .before .before .before .before .before .before .before .before .pre .0 .output)
 
 returns : tie.Need-returns Inv-loop μ-loop
 returns c =

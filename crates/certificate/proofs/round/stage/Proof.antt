@@ -1,4 +1,5 @@
--- The loop's invariant: the first j registers are staged, and whether one of them changes. The measure is what is left of them.
+-- The loop's invariant: the first j registers are staged, and whether one of them changes. The measure is what is
+-- left of them.
 -- Assumes nothing.
 use mathlib.Core.Path.{_≡_, refl, sym, ap, ap₂, _∙_, subst}
 use mathlib.Core.Bool.{Bool, not, _||_}
@@ -50,7 +51,10 @@ register-fact-requires c κs =
     let p = c .before .before .before .before .before .before .before .pre in
     let j = c .before .before .before .loop .j in
     let inv = c .before .before .before .loop .inv in
-    let here = listed-register (x .t .now) (x .n) (x .scratch .now) (c .before .before .before .loop .scratch) (x .first) j (c .wide .result) (inv .1 .kept) (p .1 .1 .1 .1) (omega (arith, c .before .before .loop-test .taken)) (omega (arith, c .before .before .loop-test .taken)) (c .wide .ensures) in
+    let here =
+    listed-register (x .t .now) (x .n) (x .scratch .now) (c .before .before .before .loop .scratch) (x .first) j
+    (c .wide .result) (inv .1 .kept) (p .1 .1 .1 .1) (omega (arith, c .before .before .loop-test .taken))
+    (omega (arith, c .before .before .loop-test .taken)) (c .wide .ensures) in
     ((p .0 .0, p .0 .1, here .1), (p .1 .1 .1 .0, here .2))
 
 byte-requires : tie.Need-byte-requires Inv-loop μ-loop
@@ -74,7 +78,12 @@ load-requires c κs =
     let p = c .before .before .before .before .before .before .before .before .before .before .pre in
     let j = c .before .before .before .before .before .before .loop .j in
     let inv = c .before .before .before .before .before .before .loop .inv in
-    let here = listed-register (x .t .now) (x .n) (x .scratch .now) (c .before .before .before .before .before .before .loop .scratch) (x .first) j (c .before .before .before .wide .result) (inv .1 .kept) (p .1 .1 .1 .1) (omega (arith, c .before .before .before .before .before .loop-test .taken)) (omega (arith, c .before .before .before .before .before .loop-test .taken)) (c .before .before .before .wide .ensures) in
+    let here =
+    listed-register (x .t .now) (x .n) (x .scratch .now)
+    (c .before .before .before .before .before .before .loop .scratch) (x .first) j
+    (c .before .before .before .wide .result) (inv .1 .kept) (p .1 .1 .1 .1)
+    (omega (arith, c .before .before .before .before .before .loop-test .taken))
+    (omega (arith, c .before .before .before .before .before .loop-test .taken)) (c .before .before .before .wide .ensures) in
     omega (arith, here .1)
 
 differs-requires : tie.Need-differs-requires Inv-loop μ-loop
@@ -91,22 +100,35 @@ loop-less c = omega arith
 
 loop-again : tie.Need-loop-again Inv-loop μ-loop
 loop-again c =
-    let x = c .before .before .before .before .before .before .before .before .before .before .before .before .before .args in
-    let p = c .before .before .before .before .before .before .before .before .before .before .before .before .before .pre in
+    let x =
+    c .before .before .before .before .before .before .before .before .before .before .before .before .before .args in
+    let p =
+    c .before .before .before .before .before .before .before .before .before .before .before .before .before .pre in
     let j = c .before .before .before .before .before .before .before .before .before .loop .j in
     let inv = c .before .before .before .before .before .before .before .before .before .loop .inv in
-    let here = listed-register (x .t .now) (x .n) (x .scratch .now) (c .before .before .before .before .before .before .before .before .before .loop .scratch) (x .first) j (c .before .before .before .before .before .before .wide .result) (inv .1 .kept) (p .1 .1 .1 .1) (omega (arith, c .before .before .before .before .before .before .before .before .loop-test .taken)) (omega (arith, c .before .before .before .before .before .before .before .before .loop-test .taken)) (c .before .before .before .before .before .before .wide .ensures) in
+    let here =
+    listed-register (x .t .now) (x .n) (x .scratch .now)
+    (c .before .before .before .before .before .before .before .before .before .loop .scratch) (x .first) j
+    (c .before .before .before .before .before .before .wide .result) (inv .1 .kept) (p .1 .1 .1 .1)
+    (omega (arith, c .before .before .before .before .before .before .before .before .loop-test .taken))
+    (omega (arith, c .before .before .before .before .before .before .before .before .loop-test .taken)) (c .before .before .before .before .before .before .wide .ensures) in
     let C = circuit (x .t .now) (x .n) in
     let s = storeOf (x .cells .now) (x .n) in
-    let fact : c .before .before .before .before .before .register-fact .result ≡ rule C s (getD (registerList C) j 0) = c .before .before .before .before .before .register-fact .ensures ∙ ap (rule C s) (here .0) in
+    let fact : c .before .before .before .before .before .register-fact .result ≡ rule C s
+    (getD (registerList C) j 0) = c .before .before .before .before .before .register-fact .ensures ∙ ap
+    (rule C s) (here .0) in
     let old : c .before .before .load .result ≡ s (getD (registerList C) j 0) =
-    c .before .before .load .ensures ∙ store-load (x .cells .now) (x .n) (c .before .before .before .before .before .before .wide .result) (here .1) ∙ ap s (here .0) in (
+    c .before .before .load .ensures ∙ store-load (x .cells .now) (x .n)
+    (c .before .before .before .before .before .before .wide .result) (here .1) ∙ ap s (here .0) in (
       omega arith,
-      one-staged C s (x .n) (x .scratch .now) (c .before .before .before .before .before .before .before .before .before .loop .scratch) j (c .before .before .before .widen .result) (inv .1) (omega arith) (p .1 .0 .0)
+      one-staged C s (x .n) (x .scratch .now)
+          (c .before .before .before .before .before .before .before .before .before .loop .scratch) j
+          (c .before .before .before .widen .result) (inv .1) (omega arith) (p .1 .0 .0)
           (c .before .before .before .widen .ensures ∙ c .before .before .before .before .byte .ensures ∙ ap factByte fact),
       c .either .ensures
           ∙ ap (λ (d : Bool). d || c .before .before .before .before .before .before .before .before .before .loop .changed) (c .before .differs .ensures ∙ ap₂ (λ (f g : Fact). not (same f g)) fact old)
-          ∙ changes-more C s j (c .before .before .before .before .before .before .before .before .before .loop .changed) (inv .2),
+          ∙ changes-more C s j
+          (c .before .before .before .before .before .before .before .before .before .loop .changed) (inv .2),
     )
 
 same-length : tie.Need-same-length Inv-loop μ-loop

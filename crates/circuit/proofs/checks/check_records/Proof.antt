@@ -45,7 +45,9 @@ returns c =
     c .at-record .ensures
     ∙ ap (λ x. atRecord x i) (c .before .enum-told2 .given .1)
     ∙ sym (c .before .before .before .before .before .before .loop .inv .1
-    ∙ scan-refused t n i (c .before .before .before .before .before .loop-test .taken) _ (ap (λ f. readRecord f n) (sym (c .before .before .before .before .fields-at .ensures)) ∙ sym (c .before .before .before .read-record .ensures) ∙ c .before .enum-told2 .given .1))
+    ∙ scan-refused t n i (c .before .before .before .before .before .loop-test .taken) _
+    (ap (λ f. readRecord f n) (sym (c .before .before .before .before .fields-at .ensures)) ∙ sym
+    (c .before .before .before .read-record .ensures) ∙ c .before .enum-told2 .given .1))
 
 add-i : tie.Need-add-i Inv-loop μ-loop
 add-i c = omega arith
@@ -60,11 +62,15 @@ loop-again c =
     let i = c .before .before .before .before .before .loop .i in (
       omega arith,
       c .before .before .before .before .before .loop .inv .1
-          ∙ scan-more t n i (c .before .before .before .before .loop-test .taken) _ (ap (λ f. readRecord f n) (sym (c .before .before .before .fields-at .ensures)) ∙ sym (c .before .before .read-record .ensures) ∙ c .enum-told .given .1),
+          ∙ scan-more t n i (c .before .before .before .before .loop-test .taken) _
+          (ap (λ f. readRecord f n) (sym (c .before .before .before .fields-at .ensures)) ∙ sym
+          (c .before .before .read-record .ensures) ∙ c .enum-told .given .1),
     )
 
 returns-2 : tie.Need-returns-2 Inv-loop μ-loop
-returns-2 c = sym (c .before .loop .inv .1 ∙ scan-end (c .before .before .before .args .t .now) (c .before .before .before .args .n) (c .before .loop .i) (c .loop-test .left))
+returns-2 c =
+    sym (c .before .loop .inv .1 ∙ scan-end (c .before .before .before .args .t .now)
+    (c .before .before .before .args .n) (c .before .loop .i) (c .loop-test .left))
 
 pub check-records-spec : {M : Type 1} → statement M
 check-records-spec =

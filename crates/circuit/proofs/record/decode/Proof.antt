@@ -15,13 +15,16 @@ operator-of-requires : tie.Need-operator-of-requires
 operator-of-requires c κs = search needs
 
 returns : tie.Need-returns
-returns c = ap (Input (c .before .before .args .f .width)) (c .input-kind .ensures) ∙ sym (decode-input (c .before .before .args .f) (c .before .match .keys1))
+returns c =
+    ap (Input (c .before .before .args .f .width)) (c .input-kind .ensures) ∙ sym
+    (decode-input (c .before .before .args .f) (c .before .match .keys1))
 
 returns-2 : tie.Need-returns-2
 returns-2 c = sym (decode-constant (c .before .args .f) (c .match .keys2))
 
 returns-3 : tie.Need-returns-3
-returns-3 c = rw (c .operator-of .ensures) (sym (decode-operator (c .before .before .args .f) (c .before .match .keys3)))
+returns-3 c =
+    rw (c .operator-of .ensures) (sym (decode-operator (c .before .before .args .f) (c .before .match .keys3)))
 
 returns-4 : tie.Need-returns-4
 returns-4 c = sym (decode-multiplexer (c .before .args .f) (c .match .keys4))

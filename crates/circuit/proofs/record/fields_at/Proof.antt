@@ -56,7 +56,8 @@ u32-at-requires : tie.Need-u32-at-requires
 u32-at-requires c κs = search needs
 
 returns : tie.Need-returns
-returns c = simp (c .before .before .before .before .u16-at .ensures, c .before .before .before .u16-at2 .ensures, c .before .before .u16-at3 .ensures, c .before .u16-at4 .ensures, c .u32-at .ensures)
+returns c =
+    simp (c .before .before .before .before .u16-at .ensures, c .before .before .before .u16-at2 .ensures, c .before .before .u16-at3 .ensures, c .before .u16-at4 .ensures, c .u32-at .ensures)
 
 pub fields-at-spec : {M : Type 1} → statement M
 fields-at-spec =

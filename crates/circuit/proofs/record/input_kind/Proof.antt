@@ -16,10 +16,14 @@ enum-told : tie.Need-enum-told
 enum-told c = search needs
 
 returns : tie.Need-returns
-returns c = sym (input-none (c .before .before .before .args .code) (c .before .before .before .args .value) (sym (c .before .before .read-input .ensures) ∙ c .enum-told .given .1) .1)
+returns c =
+    sym (input-none (c .before .before .before .args .code) (c .before .before .before .args .value)
+    (sym (c .before .before .read-input .ensures) ∙ c .enum-told .given .1) .1)
 
 returns-2 : tie.Need-returns-2
-returns-2 c = sym (input-is (c .before .before .before .before .args .code) (c .before .before .before .before .args .value) _ (sym (c .before .before .before .read-input .ensures) ∙ c .before .kind .given .1) .1)
+returns-2 c =
+    sym (input-is (c .before .before .before .before .args .code) (c .before .before .before .before .args .value) _
+    (sym (c .before .before .before .read-input .ensures) ∙ c .before .kind .given .1) .1)
 
 pub input-kind-spec : {M : Type 1} → statement M
 input-kind-spec =

@@ -16,10 +16,14 @@ enum-told : tie.Need-enum-told
 enum-told c = search needs
 
 returns : tie.Need-returns
-returns c = sym (operator-none (c .before .before .before .args .code) (sym (c .before .before .read-operator .ensures) ∙ c .enum-told .given .1) .1)
+returns c =
+    sym (operator-none (c .before .before .before .args .code)
+    (sym (c .before .before .read-operator .ensures) ∙ c .enum-told .given .1) .1)
 
 returns-2 : tie.Need-returns-2
-returns-2 c = sym (operator-is (c .before .before .before .before .args .code) _ (sym (c .before .before .before .read-operator .ensures) ∙ c .before .op .given .1) .1)
+returns-2 c =
+    sym (operator-is (c .before .before .before .before .args .code) _
+    (sym (c .before .before .before .read-operator .ensures) ∙ c .before .op .given .1) .1)
 
 pub operator-of-spec : {M : Type 1} → statement M
 operator-of-spec =

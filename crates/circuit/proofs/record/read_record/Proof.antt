@@ -34,7 +34,9 @@ enum-told : tie.Need-enum-told
 enum-told c = search needs
 
 returns : tie.Need-returns
-returns c = refused-kind (c .before .before .before .args .f) (c .before .before .before .args .n) (kind-none _ (sym (c .before .before .read-kind .ensures) ∙ c .enum-told .given .1))
+returns c =
+    refused-kind (c .before .before .before .args .f) (c .before .before .before .args .n)
+    (kind-none _ (sym (c .before .before .read-kind .ensures) ∙ c .enum-told .given .1))
 
 bad-width-requires : tie.Need-bad-width-requires
 bad-width-requires c κs = search needs
@@ -43,7 +45,9 @@ returns-2 : tie.Need-returns-2
 returns-2 c =
     let f = c .before .before .before .before .before .before .args .f in
     let n = c .before .before .before .before .before .before .args .n in
-    let kind = kind-is (f .kind) _ (sym (c .before .before .before .before .before .read-kind .ensures) ∙ c .before .before .before .kind .given .1) in
+    let kind =
+    kind-is (f .kind) _ (sym
+    (c .before .before .before .before .before .read-kind .ensures) ∙ c .before .before .before .kind .given .1) in
     let width = sym (c .before .bad-width .ensures) ∙ c .if1 .taken in
     refused-width f n (kind .0) width
 
@@ -54,9 +58,12 @@ returns-3 : tie.Need-returns-3
 returns-3 c =
     let f = c .before .before .before .before .before .before .before .before .args .f in
     let n = c .before .before .before .before .before .before .before .before .args .n in
-    let kind = kind-is (f .kind) _ (sym (c .before .before .before .before .before .before .before .read-kind .ensures) ∙ c .before .before .before .before .before .kind .given .1) in
+    let kind =
+    kind-is (f .kind) _ (sym
+    (c .before .before .before .before .before .before .before .read-kind .ensures) ∙ c .before .before .before .before .before .kind .given .1) in
     let width = sym (c .before .before .before .bad-width .ensures) ∙ c .before .before .if1 .left in
-    let code = ap (λ k. leb (codes k) (f .code)) (sym (kind .1)) ∙ sym (c .before .unknown-code .ensures) ∙ c .if2 .taken in
+    let code =
+    ap (λ k. leb (codes k) (f .code)) (sym (kind .1)) ∙ sym (c .before .unknown-code .ensures) ∙ c .if2 .taken in
     refused-code f n (kind .0) width code
 
 decode-requires : tie.Need-decode-requires
@@ -70,10 +77,17 @@ unfolding zero-test below-test
 returns-4 c =
     let f = c .before .before .before .before .before .before .before .before .before .before .before .args .f in
     let n = c .before .before .before .before .before .before .before .before .before .before .before .args .n in
-    let kind = kind-is (f .kind) _ (sym (c .before .before .before .before .before .before .before .before .before .before .read-kind .ensures) ∙ c .before .before .before .before .before .before .before .before .kind .given .1) in
-    let width = sym (c .before .before .before .before .before .before .bad-width .ensures) ∙ c .before .before .before .before .before .if1 .left in
-    let code = ap (λ k. leb (codes k) (f .code)) (sym (kind .1)) ∙ sym (c .before .before .before .before .unknown-code .ensures) ∙ c .before .before .before .if2 .left in
-    let zeros = ap (zero-test f) (sym (c .before .before .decode .ensures)) ∙ sym (c .before .unused-zero .ensures) ∙ not-true _ (c .if3 .taken) in
+    let kind =
+    kind-is (f .kind) _ (sym
+    (c .before .before .before .before .before .before .before .before .before .before .read-kind .ensures) ∙ c .before .before .before .before .before .before .before .before .kind .given .1) in
+    let width =
+    sym (c .before .before .before .before .before .before .bad-width .ensures) ∙ c .before .before .before .before .before .if1 .left in
+    let code =
+    ap (λ k. leb (codes k) (f .code)) (sym (kind .1)) ∙ sym
+    (c .before .before .before .before .unknown-code .ensures) ∙ c .before .before .before .if2 .left in
+    let zeros =
+    ap (zero-test f) (sym (c .before .before .decode .ensures)) ∙ sym
+    (c .before .unused-zero .ensures) ∙ not-true _ (c .if3 .taken) in
     refused-zeros f n (kind .0) width code zeros
 
 uses-below-requires : tie.Need-uses-below-requires
@@ -82,43 +96,80 @@ uses-below-requires c κs = search needs
 returns-5 : tie.Need-returns-5
 unfolding zero-test below-test
 returns-5 c =
-    let f = c .before .before .before .before .before .before .before .before .before .before .before .before .before .args .f in
-    let n = c .before .before .before .before .before .before .before .before .before .before .before .before .before .args .n in
-    let kind = kind-is (f .kind) _ (sym (c .before .before .before .before .before .before .before .before .before .before .before .before .read-kind .ensures) ∙ c .before .before .before .before .before .before .before .before .before .before .kind .given .1) in
-    let width = sym (c .before .before .before .before .before .before .before .before .bad-width .ensures) ∙ c .before .before .before .before .before .before .before .if1 .left in
-    let code = ap (λ k. leb (codes k) (f .code)) (sym (kind .1)) ∙ sym (c .before .before .before .before .before .before .unknown-code .ensures) ∙ c .before .before .before .before .before .if2 .left in
-    let zeros = ap (zero-test f) (sym (c .before .before .before .before .decode .ensures)) ∙ sym (c .before .before .before .unused-zero .ensures) ∙ not-false _ (c .before .before .if3 .left) in
-    let variables = ap (below-test n) (sym (c .before .before .before .before .decode .ensures)) ∙ sym (c .before .uses-below .ensures) ∙ not-true _ (c .if4 .taken) in
+    let f =
+    c .before .before .before .before .before .before .before .before .before .before .before .before .before .args .f in
+    let n =
+    c .before .before .before .before .before .before .before .before .before .before .before .before .before .args .n in
+    let kind =
+    kind-is (f .kind) _ (sym
+    (c .before .before .before .before .before .before .before .before .before .before .before .before .read-kind .ensures) ∙ c .before .before .before .before .before .before .before .before .before .before .kind .given .1) in
+    let width =
+    sym (c .before .before .before .before .before .before .before .before .bad-width .ensures) ∙ c .before .before .before .before .before .before .before .if1 .left in
+    let code =
+    ap (λ k. leb (codes k) (f .code)) (sym (kind .1)) ∙ sym
+    (c .before .before .before .before .before .before .unknown-code .ensures) ∙ c .before .before .before .before .before .if2 .left in
+    let zeros =
+    ap (zero-test f) (sym (c .before .before .before .before .decode .ensures)) ∙ sym
+    (c .before .before .before .unused-zero .ensures) ∙ not-false _ (c .before .before .if3 .left) in
+    let variables =
+    ap (below-test n) (sym (c .before .before .before .before .decode .ensures)) ∙ sym
+    (c .before .uses-below .ensures) ∙ not-true _ (c .if4 .taken) in
     refused-variables f n (kind .0) width code zeros variables
 
 too-wide-requires : tie.Need-too-wide-requires
-too-wide-requires c κs = width-most (c .before .before .before .before .before .before .before .before .before .before .before .before .before .args .f .width) (sym (c .before .before .before .before .before .before .before .before .bad-width .ensures) ∙ c .before .before .before .before .before .before .before .if1 .left)
+too-wide-requires c κs =
+    width-most (c .before .before .before .before .before .before .before .before .before .before .before .before .before .args .f .width) (sym (c .before .before .before .before .before .before .before .before .bad-width .ensures) ∙ c .before .before .before .before .before .before .before .if1 .left)
 
 returns-6 : tie.Need-returns-6
 unfolding zero-test below-test
 returns-6 c =
-    let f = c .before .before .before .before .before .before .before .before .before .before .before .before .before .before .before .args .f in
-    let n = c .before .before .before .before .before .before .before .before .before .before .before .before .before .before .before .args .n in
-    let kind = kind-is (f .kind) _ (sym (c .before .before .before .before .before .before .before .before .before .before .before .before .before .before .read-kind .ensures) ∙ c .before .before .before .before .before .before .before .before .before .before .before .before .kind .given .1) in
-    let width = sym (c .before .before .before .before .before .before .before .before .before .before .bad-width .ensures) ∙ c .before .before .before .before .before .before .before .before .before .if1 .left in
-    let code = ap (λ k. leb (codes k) (f .code)) (sym (kind .1)) ∙ sym (c .before .before .before .before .before .before .before .before .unknown-code .ensures) ∙ c .before .before .before .before .before .before .before .if2 .left in
-    let zeros = ap (zero-test f) (sym (c .before .before .before .before .before .before .decode .ensures)) ∙ sym (c .before .before .before .before .before .unused-zero .ensures) ∙ not-false _ (c .before .before .before .before .if3 .left) in
-    let variables = ap (below-test n) (sym (c .before .before .before .before .before .before .decode .ensures)) ∙ sym (c .before .before .before .uses-below .ensures) ∙ not-false _ (c .before .before .if4 .left) in
+    let f =
+    c .before .before .before .before .before .before .before .before .before .before .before .before .before .before .before .args .f in
+    let n =
+    c .before .before .before .before .before .before .before .before .before .before .before .before .before .before .before .args .n in
+    let kind =
+    kind-is (f .kind) _ (sym
+    (c .before .before .before .before .before .before .before .before .before .before .before .before .before .before .read-kind .ensures) ∙ c .before .before .before .before .before .before .before .before .before .before .before .before .kind .given .1) in
+    let width =
+    sym (c .before .before .before .before .before .before .before .before .before .before .bad-width .ensures) ∙ c .before .before .before .before .before .before .before .before .before .if1 .left in
+    let code =
+    ap (λ k. leb (codes k) (f .code)) (sym (kind .1)) ∙ sym
+    (c .before .before .before .before .before .before .before .before .unknown-code .ensures) ∙ c .before .before .before .before .before .before .before .if2 .left in
+    let zeros =
+    ap (zero-test f) (sym (c .before .before .before .before .before .before .decode .ensures)) ∙ sym
+    (c .before .before .before .before .before .unused-zero .ensures) ∙ not-false _
+    (c .before .before .before .before .if3 .left) in
+    let variables =
+    ap (below-test n) (sym (c .before .before .before .before .before .before .decode .ensures)) ∙ sym
+    (c .before .before .before .uses-below .ensures) ∙ not-false _ (c .before .before .if4 .left) in
     let value = sym (c .before .too-wide .ensures) ∙ c .if5 .taken in
     refused-value f n (kind .0) width code zeros variables value
 
 returns-7 : tie.Need-returns-7
 unfolding zero-test below-test
 returns-7 c =
-    let f = c .before .before .before .before .before .before .before .before .before .before .before .before .before .before .before .args .f in
-    let n = c .before .before .before .before .before .before .before .before .before .before .before .before .before .before .before .args .n in
-    let kind = kind-is (f .kind) _ (sym (c .before .before .before .before .before .before .before .before .before .before .before .before .before .before .read-kind .ensures) ∙ c .before .before .before .before .before .before .before .before .before .before .before .before .kind .given .1) in
-    let width = sym (c .before .before .before .before .before .before .before .before .before .before .bad-width .ensures) ∙ c .before .before .before .before .before .before .before .before .before .if1 .left in
-    let code = ap (λ k. leb (codes k) (f .code)) (sym (kind .1)) ∙ sym (c .before .before .before .before .before .before .before .before .unknown-code .ensures) ∙ c .before .before .before .before .before .before .before .if2 .left in
-    let zeros = ap (zero-test f) (sym (c .before .before .before .before .before .before .decode .ensures)) ∙ sym (c .before .before .before .before .before .unused-zero .ensures) ∙ not-false _ (c .before .before .before .before .if3 .left) in
-    let variables = ap (below-test n) (sym (c .before .before .before .before .before .before .decode .ensures)) ∙ sym (c .before .before .before .uses-below .ensures) ∙ not-false _ (c .before .before .if4 .left) in
+    let f =
+    c .before .before .before .before .before .before .before .before .before .before .before .before .before .before .before .args .f in
+    let n =
+    c .before .before .before .before .before .before .before .before .before .before .before .before .before .before .before .args .n in
+    let kind =
+    kind-is (f .kind) _ (sym
+    (c .before .before .before .before .before .before .before .before .before .before .before .before .before .before .read-kind .ensures) ∙ c .before .before .before .before .before .before .before .before .before .before .before .before .kind .given .1) in
+    let width =
+    sym (c .before .before .before .before .before .before .before .before .before .before .bad-width .ensures) ∙ c .before .before .before .before .before .before .before .before .before .if1 .left in
+    let code =
+    ap (λ k. leb (codes k) (f .code)) (sym (kind .1)) ∙ sym
+    (c .before .before .before .before .before .before .before .before .unknown-code .ensures) ∙ c .before .before .before .before .before .before .before .if2 .left in
+    let zeros =
+    ap (zero-test f) (sym (c .before .before .before .before .before .before .decode .ensures)) ∙ sym
+    (c .before .before .before .before .before .unused-zero .ensures) ∙ not-false _
+    (c .before .before .before .before .if3 .left) in
+    let variables =
+    ap (below-test n) (sym (c .before .before .before .before .before .before .decode .ensures)) ∙ sym
+    (c .before .before .before .uses-below .ensures) ∙ not-false _ (c .before .before .if4 .left) in
     let value = sym (c .before .too-wide .ensures) ∙ c .if5 .left in
-    ap Read (c .before .before .before .before .before .before .decode .ensures) ∙ accepted f n (kind .0) width code zeros variables value
+    ap Read (c .before .before .before .before .before .before .decode .ensures) ∙ accepted f n
+    (kind .0) width code zeros variables value
 
 pub read-record-spec : {M : Type 1} → statement M
 read-record-spec =

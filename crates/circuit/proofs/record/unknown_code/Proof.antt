@@ -20,7 +20,11 @@ enum-told-3 : tie.Need-enum-told-3
 enum-told-3 c = search needs
 
 returns : tie.Need-returns
-returns c = rw (c .before .before .before .enum-told .given .1) (sym (le-leb 3 (c .before .before .before .before .before .args .code) (input-none (c .before .before .before .before .before .args .code) 0 (sym (c .before .before .read-input .ensures) ∙ c .enum-told3 .given .1) .0)))
+returns c =
+    rw (c .before .before .before .enum-told .given .1)
+    (sym (le-leb 3 (c .before .before .before .before .before .args .code)
+    (input-none (c .before .before .before .before .before .args .code) 0
+    (sym (c .before .before .read-input .ensures) ∙ c .enum-told3 .given .1) .0)))
 
 enum-told-4 : tie.Need-enum-told-4
 enum-told-4 c = search needs
@@ -35,7 +39,11 @@ enum-told-6 : tie.Need-enum-told-6
 enum-told-6 c = search needs
 
 returns-2 : tie.Need-returns-2
-returns-2 c = rw (c .before .before .before .enum-told4 .given .1) (sym (le-leb 9 (c .before .before .before .before .before .args .code) (operator-none (c .before .before .before .before .before .args .code) (sym (c .before .before .read-operator .ensures) ∙ c .enum-told6 .given .1) .0)))
+returns-2 c =
+    rw (c .before .before .before .enum-told4 .given .1)
+    (sym (le-leb 9 (c .before .before .before .before .before .args .code)
+    (operator-none (c .before .before .before .before .before .args .code)
+    (sym (c .before .before .read-operator .ensures) ∙ c .enum-told6 .given .1) .0)))
 
 enum-told-7 : tie.Need-enum-told-7
 enum-told-7 c = search needs
@@ -47,10 +55,18 @@ enum-told-9 : tie.Need-enum-told-9
 enum-told-9 c = search needs
 
 returns-3 : tie.Need-returns-3
-returns-3 c = rw (c .before .before .before .enum-told .given .1) (sym (lt-leb 3 (c .before .before .before .before .before .args .code) (input-is (c .before .before .before .before .before .args .code) 0 _ (sym (c .before .before .read-input .ensures) ∙ c .enum-told2 .given .1) .0)))
+returns-3 c =
+    rw (c .before .before .before .enum-told .given .1)
+    (sym (lt-leb 3 (c .before .before .before .before .before .args .code)
+    (input-is (c .before .before .before .before .before .args .code) 0 _
+    (sym (c .before .before .read-input .ensures) ∙ c .enum-told2 .given .1) .0)))
 
 returns-4 : tie.Need-returns-4
-returns-4 c = rw (c .before .before .before .enum-told4 .given .1) (sym (lt-leb 9 (c .before .before .before .before .before .args .code) (operator-is (c .before .before .before .before .before .args .code) _ (sym (c .before .before .read-operator .ensures) ∙ c .enum-told5 .given .1) .0)))
+returns-4 c =
+    rw (c .before .before .before .enum-told4 .given .1)
+    (sym (lt-leb 9 (c .before .before .before .before .before .args .code)
+    (operator-is (c .before .before .before .before .before .args .code) _
+    (sym (c .before .before .read-operator .ensures) ∙ c .enum-told5 .given .1) .0)))
 
 returns-5 : tie.Need-returns-5
 returns-5 c = rw (c .enum-told7 .given .1)

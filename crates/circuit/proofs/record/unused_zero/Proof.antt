@@ -56,11 +56,13 @@ returns c = rw (c .before .before .before .before .r .given .1, c .before .enum-
 
 returns-2 : tie.Need-returns-2
 unfolding every
-returns-2 c = rw (c .before .before .before .before .r .given .1, c .before .enum-told2 .given .1) (c .all-zero2 .ensures)
+returns-2 c =
+    rw (c .before .before .before .before .r .given .1, c .before .enum-told2 .given .1) (c .all-zero2 .ensures)
 
 returns-3 : tie.Need-returns-3
 unfolding every
-returns-3 c = rw (c .before .before .before .before .r .given .1, c .before .enum-told3 .given .1) (c .all-zero3 .ensures)
+returns-3 c =
+    rw (c .before .before .before .before .r .given .1, c .before .enum-told3 .given .1) (c .all-zero3 .ensures)
 
 returns-4 : tie.Need-returns-4
 unfolding every

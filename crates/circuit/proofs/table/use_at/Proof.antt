@@ -27,7 +27,8 @@ u16-at-requires c κs = omega (arith, wireUses-most (fieldsAt (c .before .args .
 returns : tie.Need-returns
 returns c =
     c .u16-at .ensures
-    ∙ use-number (c .before .before .args .t .now) (c .before .before .args .v * 16) (c .before .before .args .k) (c .before .before .pre .1)
+    ∙ use-number (c .before .before .args .t .now) (c .before .before .args .v * 16) (c .before .before .args .k)
+    (c .before .before .pre .1)
 
 pub use-at-spec : {M : Type 1} → statement M
 use-at-spec =

@@ -15,16 +15,23 @@ shared-slice-read-kind : tie.Need-shared-slice-read-kind
 shared-slice-read-kind c = search needs
 
 returns : tie.Need-returns
-returns c = rw (decode-input (fieldsAt (c .before .before .args .t .now) (c .before .before .args .v * 16)) (c .match .keys1))
+returns c =
+    rw (decode-input (fieldsAt (c .before .before .args .t .now) (c .before .before .args .v * 16)) (c .match .keys1))
 
 returns-2 : tie.Need-returns-2
-returns-2 c = rw (decode-constant (fieldsAt (c .before .before .args .t .now) (c .before .before .args .v * 16)) (c .match .keys2))
+returns-2 c =
+    rw (decode-constant (fieldsAt (c .before .before .args .t .now) (c .before .before .args .v * 16))
+    (c .match .keys2))
 
 returns-3 : tie.Need-returns-3
-returns-3 c = rw (decode-operator (fieldsAt (c .before .before .args .t .now) (c .before .before .args .v * 16)) (c .match .keys3))
+returns-3 c =
+    rw (decode-operator (fieldsAt (c .before .before .args .t .now) (c .before .before .args .v * 16))
+    (c .match .keys3))
 
 returns-4 : tie.Need-returns-4
-returns-4 c = rw (decode-multiplexer (fieldsAt (c .before .before .args .t .now) (c .before .before .args .v * 16)) (c .match .keys4))
+returns-4 c =
+    rw (decode-multiplexer (fieldsAt (c .before .before .args .t .now) (c .before .before .args .v * 16))
+    (c .match .keys4))
 
 returns-5 : tie.Need-returns-5
 returns-5 c =

@@ -33,10 +33,22 @@ enum-told-7 : tie.Need-enum-told-7
 enum-told-7 c = search needs
 
 returns : tie.Need-returns
-returns c = simp (c .before .before .before .before .before .self .given .1, c .before .before .other .given .1, eq-eqb _ _ (c .if1 .taken))
+returns c =
+    simp (
+      c .before .before .before .before .before .self .given .1,
+      c .before .before .other .given .1,
+      eq-eqb _ _
+          (c .if1 .taken),
+    )
 
 returns-2 : tie.Need-returns-2
-returns-2 c = simp (c .before .before .before .before .before .self .given .1, c .before .before .other .given .1, ne-eqb _ _ (c .if1 .left))
+returns-2 c =
+    simp (
+      c .before .before .before .before .before .self .given .1,
+      c .before .before .other .given .1,
+      ne-eqb _ _
+          (c .if1 .left),
+    )
 
 returns-3 : tie.Need-returns-3
 returns-3 c = search needs
