@@ -22,7 +22,7 @@ use Rattle.circuit.proofs.Decoding.{decode-width}
 use Rattle.circuit.proofs.Tables.{records-valid, circuit-record, record-uses}
 use Rattle.fact.specs.declared.Fact.{Fact}
 use Rattle.fact.specs.declared.Fact.the-variants.{Always}
-use Rattle.fact.specs.Rule.{operatorRule, multiplexerRule, registerRule, ruleOf, rule}
+use Rattle.fact.specs.Rule.{inputRule, operatorRule, multiplexerRule, registerRule, ruleOf, rule}
 
 module _ (t : List ℕ) (n : ℕ) (ok : checkRecords t n ≡ Passed) (v : ℕ) (h : v < n) (r : Record)
     (e : r ≡ decode (fieldsAt t (v * 16))) where
@@ -32,8 +32,12 @@ module _ (t : List ℕ) (n : ℕ) (ok : checkRecords t n ≡ Passed) (v : ℕ) (
   used : (u : ℕ) → T (member u (uses r)) → u < n
   used u m = record-uses t n ok v h u (subst (λ (x : Record). T (member u (uses x))) e m)
 
-  pub record-here : recordOf (circuit t n) v ≡ r
+  record-here : recordOf (circuit t n) v ≡ r
   record-here = circuit-record t n v h ∙ sym e
+
+  pub input-here : (w : ℕ) (k : InputKind) → r ≡ Input w k → (s : ℕ → Fact) → inputRule k ≡ rule (circuit t n) s v
+  unfolding rule
+  input-here w k q s = sym (ap (λ (x : Record). ruleOf x s) (record-here ∙ q))
 
   pub constant-here : (w k : ℕ) → r ≡ Constant w k → (s : ℕ → Fact) → Always k ≡ rule (circuit t n) s v
   unfolding rule

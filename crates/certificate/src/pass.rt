@@ -2,9 +2,8 @@
 ghost use mathlib.Core.Path.{_≡_};
 ghost use Prim.Native.Nat.{ℕ, _*_, _≤_, _<_};
 ghost use lib.ListN.{length, take};
-ghost use Rattle.net.specs.Net.{wire, register, listBelow};
+ghost use Rattle.net.specs.Net.{listBelow};
 ghost use Rattle.circuit.specs.declared.refusal.Check.the-variants.{Passed};
-ghost use Rattle.circuit.specs.Record.{role};
 ghost use Rattle.circuit.specs.Circuit.{circuit, recordOf, graph};
 ghost use Rattle.circuit.specs.Checks.{checkRecords};
 ghost use Rattle.fact.specs.Rule.{rule};
@@ -53,16 +52,15 @@ pub fn write_initial(t: &[u8], n: usize, cells: &mut [u8])
     }
 }
 
-// What a wire's rule gives.
-fn wire_fact(t: &[u8], n: usize, cells: &[u8], v: usize) -> Fact
+// What variable v's rule gives.
+pub fn rule_fact(t: &[u8], n: usize, cells: &[u8], v: usize) -> Fact
     requires { ⌜ (n * 16 ≤ length (now t)) × (n * 8 ≤ length (now cells)) × (v < n) ⌝ }
     requires { ⌜ checkRecords (now t) n ≡ Passed ⌝ }
-    requires { ⌜ role (recordOf (circuit (now t) n) v) ≡ wire ⌝ }
     ensures { λ r. ⌜ r ≡ rule (circuit (now (t .entry)) n) (storeOf (now (cells .entry)) n) v ⌝ }
 {
     let r = record_at(t, v);
     match r {
-        Record::Input(_, _) => Fact::MARKED,
+        Record::Input(_, kind) => input_rule(kind),
         Record::Constant(_, value) => Fact::Always(value),
         Record::Operator(w, op, a, b) => {
             operator_rule(op, w, load(cells, wide(a)), load(cells, wide(b)))
@@ -75,23 +73,6 @@ fn wire_fact(t: &[u8], n: usize, cells: &[u8], v: usize) -> Fact
                 load(cells, wide(c)),
             )
         }
-        Record::Register(_, _, _) => Fact::MARKED,
-    }
-}
-
-// What a register's rule gives.
-pub fn register_fact(t: &[u8], n: usize, cells: &[u8], v: usize) -> Fact
-    requires { ⌜ (n * 16 ≤ length (now t)) × (n * 8 ≤ length (now cells)) × (v < n) ⌝ }
-    requires { ⌜ checkRecords (now t) n ≡ Passed ⌝ }
-    requires { ⌜ role (recordOf (circuit (now t) n) v) ≡ register ⌝ }
-    ensures { λ r. ⌜ r ≡ rule (circuit (now (t .entry)) n) (storeOf (now (cells .entry)) n) v ⌝ }
-{
-    let r = record_at(t, v);
-    match r {
-        Record::Input(_, _) => Fact::MARKED,
-        Record::Constant(_, _) => Fact::MARKED,
-        Record::Operator(_, _, _, _) => Fact::MARKED,
-        Record::Multiplexer(_, _, _, _) => Fact::MARKED,
         Record::Register(w, a, value) => register_rule(w, value, load(cells, wide(a))),
     }
 }
@@ -109,7 +90,7 @@ pub fn settle(t: &[u8], n: usize, scratch: &[u16], wires: usize, cells: &mut [u8
     let mut i: usize = 0;
     while i < wires {
         let v = wide(scratch[i]);
-        let f = wire_fact(t, n, cells, v);
+        let f = rule_fact(t, n, cells, v);
         store(cells, v, f);
         i += 1;
     }

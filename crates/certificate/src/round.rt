@@ -15,7 +15,7 @@ ghost use Rattle.schedule.specs.Schedule.{registerList};
 ghost use Rattle.certificate.specs.Cells.{storeOf, Written};
 ghost use Rattle.certificate.specs.Ready.{Ready};
 ghost use Rattle.certificate.specs.Staging.{Listed, StagedTo, KeptAround, staysAt, stagedFact};
-use crate::pass::register_fact;
+use crate::pass::rule_fact;
 use crate::pass::settle;
 use crate::pass::wide;
 use circuit::record::Record;
@@ -85,7 +85,7 @@ pub fn stage(
     let mut j: usize = 0;
     while j < registers {
         let v = wide(scratch[first + j]);
-        let f = register_fact(t, n, cells, v);
+        let f = rule_fact(t, n, cells, v);
         scratch[n + j] = widen(byte(f));
         changed = either(differs(f, load(cells, v)), changed);
         j += 1;

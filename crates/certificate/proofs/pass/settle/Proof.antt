@@ -34,8 +34,8 @@ shared-slice-read-wide c = omega arith
 wide-requires : tie.Need-wide-requires Inv-loop μ-loop
 wide-requires c κs = search needs
 
-wire-fact-requires : tie.Need-wire-fact-requires Inv-loop μ-loop
-wire-fact-requires c κs =
+rule-fact-requires : tie.Need-rule-fact-requires Inv-loop μ-loop
+rule-fact-requires c κs =
     let x = c .before .before .before .before .before .before .before .before .args in
     let p = c .before .before .before .before .before .before .before .before .pre in
     let w =
@@ -51,7 +51,7 @@ wire-fact-requires c κs =
         ),
         w .0,
       ),
-      (p .1 .0, w .1),
+      p .1 .0,
     )
 
 store-requires : tie.Need-store-requires Inv-loop μ-loop
@@ -84,7 +84,7 @@ loop-again c =
     let cells = c .before .before .before .before .before .before .before .before .before .loop .cells in
     let i = c .before .before .before .before .before .before .before .before .before .loop .i in
     let v = c .before .before .before .before .before .before .wide .result in
-    let f = c .before .before .before .before .wire-fact .result in (
+    let f = c .before .before .before .before .rule-fact .result in (
       omega arith,
       subst (λ (l : List ℕ). Passed-wires (x .t .now) (x .n) (take (x .wires) (x .scratch .now)) (x .cells .now) l
           (i + 1))
@@ -93,7 +93,7 @@ loop-again c =
           (c .before .before .before .before .before .before .before .before .before .loop .inv .1) v f
           (c .before .before .before .before .before .before .before .before .loop-test .taken)
           (c .before .before .before .before .before .before .wide .ensures)
-          (c .before .before .before .before .wire-fact .ensures) (c .before .before .store .ensures .1)),
+          (c .before .before .before .before .rule-fact .ensures) (c .before .before .store .ensures .1)),
     )
 
 same-length : tie.Need-same-length Inv-loop μ-loop
@@ -120,7 +120,7 @@ settle-spec =
     mul-wide
     shared-slice-read-wide
     wide-requires
-    wire-fact-requires
+    rule-fact-requires
     store-requires
     add-i
     loop-less
