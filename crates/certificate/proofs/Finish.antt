@@ -1,12 +1,12 @@
 -- The ends of the certifying call: the store before any round, the bytes of the certificate, the cleared scratch.
 -- Assumes nothing.
-use mathlib.Core.Path.{_≡_, refl, sym, ap, _∙_, subst}
-use mathlib.Core.List.{List, [], _∷_, _++_, flatMap}
-use Prim.Native.Nat.{ℕ, zero, suc, _+_, _-_, _*_, _<_, _≤_}
-use native.Mathlib.Numerals.{add-one}
+use mathlib.Core.Path.{_≡_, refl, sym, ap, _∙_}
+use mathlib.Core.List.{List, [], _++_, flatMap}
+use Prim.Native.Nat.{ℕ, _+_, _-_, _*_, _<_, _≤_}
+use native.Mathlib.Nat.{not-suc-le-zero}
 use native.Mathlib.Omega.{arith}
-use lib.ListN.{length, getD, set, take, drop, replicate, length-replicate, length-append, length-drop, replicate-append-replicate}
-use lib.Seq.{drop-cons, set-at, append-snoc, ext-getD, getD-drop}
+use lib.ListN.{length, getD, drop, replicate}
+use lib.Seq.{ext-getD}
 use Rattle.net.specs.Net.{listBelow, settle}
 use Rattle.net.proofs.Lists.{length-listBelow, getD-listBelow}
 use Rattle.circuit.specs.declared.refusal.Ground.{Ground}
@@ -20,6 +20,8 @@ use Rattle.fact.specs.declared.Fact.the-variants.{Open}
 use Rattle.fact.specs.Fact.{factBytes}
 use Rattle.fact.specs.Rule.{rule}
 use Rattle.fact.specs.Certificate.{initialFact, initialStore, certificate}
+use Rattle.schedule.specs.Scratch.{Filled}
+use Rattle.schedule.proofs.Filled.{filled-zero, in-part}
 use Rattle.certificate.specs.Cells.{facts, storeOf, Written}
 use Rattle.certificate.specs.Staging.{KeptAround}
 use Rattle.certificate.proofs.Rounds.{settle-agree}
@@ -61,25 +63,15 @@ certificate-written t n entry cells w h =
 
 -- ---- the scratch
 
-pub clear-next : (entry : List ℕ) (i : ℕ) → i < length entry
-    → set (replicate i 0 ++ drop i entry) i 0 ≡ replicate (i + 1) 0 ++ drop (i + 1) entry
-clear-next entry i h =
-    ap (λ (l : List ℕ). set (replicate i 0 ++ l) i 0) (drop-cons entry i 0 h)
-    ∙ set-at (replicate i 0) (getD entry i 0) (drop (suc i) entry) 0 i (length-replicate i 0)
-    ∙ sym (append-snoc (replicate i 0) 0 (drop (suc i) entry))
-    ∙ ap (λ (l : List ℕ). l ++ drop (suc i) entry) (replicate-append-replicate i 1 0)
-    ∙ ap (λ (k : ℕ). replicate (i + 1) 0 ++ drop k entry) (sym (add-one i))
-
-pub clear-length : (entry : List ℕ) (i : ℕ) → i ≤ length entry → length (replicate i 0 ++ drop i entry) ≡ length entry
-clear-length entry i h =
-    length-append (replicate i 0) (drop i entry) ∙ omega (arith, length-replicate {A = ℕ} i 0, length-drop i entry)
-
-pub kept-past : (n part : ℕ) (entry scratch : List ℕ) → KeptAround n entry scratch → n + n ≤ part
-    → drop part scratch ≡ drop part entry
-kept-past n part entry scratch kept h =
-    ext-getD 0 (drop part scratch) (drop part entry)
-    (length-drop part scratch ∙ ap (λ (k : ℕ). k - part) (kept .long) ∙ sym (length-drop part entry))
-    (λ i l. getD-drop part scratch i 0 ∙ kept .past (part + i) (omega arith) ∙ sym (getD-drop part entry i 0))
+pub cleared : (n part : ℕ) (entry scratch exit : List ℕ) → KeptAround n entry scratch → n + n ≤ part
+    → part ≤ length entry → Filled 0 (part - 0) (λ _. 0) scratch exit → exit ≡ replicate part 0 ++ drop part entry
+cleared n part entry scratch exit kept h lent filled =
+    let whole : part - 0 ≡ part = omega arith in
+    in-part part 0 [] entry exit refl (omega arith) lent (filled .long ∙ kept .long)
+    (λ i l. absurd (not-suc-le-zero l))
+    (λ i _ l. filled-zero 0 part scratch exit filled i (omega arith) l)
+    (λ i l. filled .beyond i (omega arith) ∙ kept .past i (omega arith))
+    ∙ ap (λ (k : ℕ). replicate k 0 ++ drop part entry) whole
 
 -- ---- checks in order
 

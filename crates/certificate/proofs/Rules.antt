@@ -1,20 +1,19 @@
 -- The rule of a variable, by what its record reads as: its width is at most 32 and its operands are variables of the
 -- table.
 -- Assumes nothing.
-use mathlib.Core.Path.{_≡_, refl, sym, ap, _∙_, subst}
+use mathlib.Core.Path.{_≡_, sym, ap, _∙_, subst}
 use mathlib.Core.List.{List}
 use Prim.Native.Nat.{ℕ, _*_, _<_, _≤_}
 use native.Mathlib.Omega.{arith}
 use lib.Dec.{T}
 use Rattle.net.specs.Tests.{member}
-use Rattle.net.specs.Net.{wire, register}
 use Rattle.net.proofs.Bools.{member-1, member-2, member-3}
 use Rattle.circuit.specs.declared.operator.Operator as operator
 use Rattle.circuit.specs.declared.record.InputKind.{InputKind}
 use Rattle.circuit.specs.declared.record.Record.{Record}
 use Rattle.circuit.specs.declared.record.Record.the-variants.{Input, Constant, Operator, Multiplexer, Register}
 use Rattle.circuit.specs.declared.refusal.Check.the-variants.{Passed}
-use Rattle.circuit.specs.Record.{width, role, uses}
+use Rattle.circuit.specs.Record.{width, uses}
 use Rattle.circuit.specs.Reading.{fieldsAt, decode}
 use Rattle.circuit.specs.Circuit.{circuit, recordOf}
 use Rattle.circuit.specs.Checks.{checkRecords}

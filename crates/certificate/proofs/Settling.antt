@@ -1,15 +1,14 @@
 -- The wires' facts along their order: the invariant of the pass, and that it ends in the settled store.
 -- Assumes nothing.
-use mathlib.Core.Path.{_≡_, refl, sym, ap, _∙_, subst}
+use mathlib.Core.Path.{_≡_, sym, ap, _∙_}
 use mathlib.Core.List.{List}
 use Prim.Native.Nat.{ℕ, _+_, _*_, _^_, _<_, _≤_}
 use native.Mathlib.Omega.{arith}
 use lib.ListN.{length, getD, take}
 use lib.Seq.{sets, getD-take, length-take-le}
-use Rattle.net.specs.Net.{wire, settle}
+use Rattle.net.specs.Net.{settle}
 use Rattle.circuit.specs.declared.refusal.Check.the-variants.{Passed}
-use Rattle.circuit.specs.Record.{role}
-use Rattle.circuit.specs.Circuit.{circuit, recordOf, graph}
+use Rattle.circuit.specs.Circuit.{circuit, graph}
 use Rattle.circuit.specs.Checks.{checkRecords}
 use Rattle.circuit.proofs.Tables.{circuit-length, circuit-inside}
 use Rattle.fact.specs.declared.Fact.{Fact}
@@ -39,11 +38,10 @@ module _ (t : List ℕ) (n : ℕ) (scratch : List ℕ) (wires : ℕ) (few : wire
   order-at : (i : ℕ) → i < wires → getD (take wires scratch) i 0 ≡ getD scratch i 0
   order-at i h = getD-take wires scratch i 0 h
 
-  pub wire-below : (i v : ℕ) → i < wires → v ≡ getD scratch i 0 → (v < n) × (role (recordOf (circuit t n) v) ≡ wire)
+  pub wire-below : (i v : ℕ) → i < wires → v ≡ getD scratch i 0 → v < n
   wire-below i v h e =
-      let (below, is-wire) = ordered .wires i (omega (arith, order-length)) in
       let same : getD (take wires scratch) i 0 ≡ v = order-at i h ∙ sym e in
-      (omega (arith, circuit-length t n, same), subst (λ (u : ℕ). role (recordOf (circuit t n) u) ≡ wire) same is-wire)
+      omega (arith, ordered .wires i (omega (arith, order-length)) .0, circuit-length t n, same)
 
   module _ (entry cells : List ℕ) (i : ℕ) (p : Passed-wires t n (take wires scratch) entry cells i) where
     pub one-passed : (v : ℕ) (f : Fact) → i < wires → v ≡ getD scratch i 0 → f ≡ rule (circuit t n) (storeOf cells n) v
@@ -59,7 +57,7 @@ module _ (t : List ℕ) (n : ℕ) (scratch : List ℕ) (wires : ℕ) (few : wire
         }
       where
         below : v < n
-        below = wire-below i v h e .0
+        below = wire-below i v h e
 
         same : getD (take wires scratch) i 0 ≡ v
         same = order-at i h ∙ sym e

@@ -22,6 +22,7 @@ use circuit::checks::check_scratch;
 use circuit::refusal::Check;
 use circuit::refusal::Ground;
 use schedule::Outcome;
+use schedule::clear;
 use schedule::schedule;
 
 mod pass;
@@ -53,17 +54,6 @@ fn check_call(t: &[u8], output: usize, scratch: usize) -> Check
     check_records(t, n)
 }
 
-fn clear_part(scratch: &mut [u16], part: usize)
-    requires { ⌜ part ≤ length (now scratch) ⌝ }
-    ensures { λ _. ⌜ now (scratch .exit) ≡ replicate part 0 ++ drop part (now (scratch .entry)) ⌝ }
-{
-    let mut i: usize = 0;
-    while i < part {
-        scratch[i] = 0;
-        i += 1;
-    }
-}
-
 // The certificate of a table whose order stands in the scratch. How many rounds it took.
 fn certify_ordered(
     t: &[u8],
@@ -87,7 +77,7 @@ fn certify_ordered(
     write_initial(t, n, cells);
     settle(t, n, scratch, wires, cells);
     let rounds = run_rounds(t, n, scratch, wires, registers, cells);
-    clear_part(scratch, n * 4);
+    clear(scratch, 0, n * 4);
     rounds
 }
 

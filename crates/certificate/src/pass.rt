@@ -11,6 +11,7 @@ ghost use Rattle.fact.specs.Certificate.{initialFact};
 ghost use Rattle.schedule.specs.Schedule.{Ordered};
 ghost use Rattle.net.specs.Net as net;
 ghost use Rattle.certificate.specs.Cells.{facts, storeOf, Written};
+use circuit::number::wide;
 use circuit::record::Record;
 use circuit::table::record_at;
 use fact::Fact;
@@ -20,12 +21,6 @@ use fact::input_rule;
 use fact::multiplexer_rule;
 use fact::operator_rule;
 use fact::register_rule;
-
-pub fn wide(v: u16) -> usize
-    ensures { λ r. ⌜ r ≡ v ⌝ }
-{
-    v as usize
-}
 
 fn initial_fact(r: Record) -> Fact
     ensures { λ f. ⌜ f ≡ initialFact r ⌝ }

@@ -17,7 +17,8 @@ ghost use Rattle.certificate.specs.Ready.{Ready};
 ghost use Rattle.certificate.specs.Staging.{Listed, StagedTo, KeptAround, staysAt, stagedFact};
 use crate::pass::rule_fact;
 use crate::pass::settle;
-use crate::pass::wide;
+use circuit::number::wide;
+use circuit::number::wide16;
 use circuit::record::Record;
 use circuit::record::initial_value;
 use circuit::table::record_at;
@@ -57,12 +58,6 @@ fn either(a: bool, b: bool) -> bool
     b
 }
 
-fn widen(x: u8) -> u16
-    ensures { λ r. ⌜ r ≡ x ⌝ }
-{
-    x as u16
-}
-
 // Stages the registers' facts. Whether one of them changes.
 pub fn stage(
     t: &[u8],
@@ -86,7 +81,7 @@ pub fn stage(
     while j < registers {
         let v = wide(scratch[first + j]);
         let f = rule_fact(t, n, cells, v);
-        scratch[n + j] = widen(byte(f));
+        scratch[n + j] = wide16(byte(f));
         changed = either(differs(f, load(cells, v)), changed);
         j += 1;
     }

@@ -24,7 +24,7 @@ pub enum Outcome {
 }
 
 // Zeros from one place up to another.
-fn clear(s: &mut [u16], from: usize, to: usize)
+pub fn clear(s: &mut [u16], from: usize, to: usize)
     requires { ⌜ (from ≤ to) × (to ≤ length (now s)) ⌝ }
     ensures { λ _. ⌜ Filled from (to - from) (λ _. 0) (now (s .entry)) (now (s .exit)) ⌝ }
 {

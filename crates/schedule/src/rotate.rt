@@ -3,7 +3,7 @@ ghost use mathlib.Core.Path.{_≡_};
 ghost use Prim.Native.Nat.{ℕ, _+_, _-_, _≤_, _<_};
 ghost use lib.ListN.{length, getD};
 ghost use Rattle.schedule.specs.Scratch.{Filled, rotation, Shown};
-use crate::walk::wide;
+use circuit::number::wide;
 
 // The place of u on the stack.
 fn find(s: &[u16], top: usize, n: usize, u: usize) -> usize

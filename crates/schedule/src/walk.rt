@@ -7,6 +7,7 @@ ghost use Rattle.circuit.specs.Circuit.{circuit};
 ghost use Rattle.schedule.specs.Scratch.{Kept};
 ghost use Rattle.schedule.specs.Walk.{Table, last, used, stateOf};
 ghost use Rattle.schedule.specs.Walk.{Walking, Progress, IsNextUse, Stepped, IsVisited};
+use circuit::number::wide;
 use circuit::table::use_at;
 use circuit::table::wire_uses;
 
@@ -36,13 +37,6 @@ pub enum Step {
 pub enum Visited {
     All(usize),
     Loop(usize, usize),
-}
-
-// A number of the scratch as an index.
-pub fn wide(x: u16) -> usize
-    ensures { λ r. ⌜ r ≡ x ⌝ }
-{
-    x as usize
 }
 
 // The state of a wire in which all its uses are done; 0 for what is no wire.

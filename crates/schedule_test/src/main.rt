@@ -8,6 +8,7 @@ use crate::print::print_refusal;
 use circuit::checks::check_length;
 use circuit::checks::check_records;
 use circuit::number::u16_at;
+use circuit::number::wide;
 use circuit::refusal::Check;
 use libc::STDIN_FILENO;
 
@@ -17,13 +18,6 @@ mod print;
 enum Header {
     Records(u16),
     End,
-}
-
-// A 16-bit number as an index.
-fn wide(x: u16) -> usize
-    ensures { λ r. ⌜ (r ≡ x) × (r < 65536) ⌝ }
-{
-    x as usize
 }
 
 // Passes over one record of the input.

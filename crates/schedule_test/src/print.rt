@@ -4,7 +4,7 @@ ghost use Prim.Native.Nat.{_≤_};
 ghost use lib.ListN.{length};
 ghost use Rattle.circuit.specs.Refusal.{groundNumber};
 ghost use Rattle.schedule_test.specs.Shown.{shown};
-use crate::wide;
+use circuit::number::wide;
 use circuit::refusal::Check;
 use circuit::refusal::Ground;
 use libc::STDOUT_FILENO;

@@ -1,17 +1,14 @@
 -- The facts before any round, the wires along their order, the rounds, and the scratch cleared.
 -- Assumes nothing.
-use Rattle.certificate.proofs.Cells.{store-load, written-length, written-self}
-use mathlib.Core.Path.{ap, _∙_}
-use mathlib.Core.List.{List, _++_}
-use Prim.Native.Nat.{ℕ, _*_}
+use mathlib.Core.Path.{_∙_}
+use Prim.Native.Nat.{_*_}
 use native.Mathlib.Omega.{arith}
-use lib.ListN.{replicate}
 use Rattle.circuit.specs.Circuit.{circuit}
 use Rattle.circuit.proofs.Tables.{circuit-inside}
 use Rattle.schedule.proofs.Orders.{ordered-no-loop}
-use Rattle.certificate.proofs.Cells.{written-length, written-self}
+use Rattle.certificate.proofs.Cells.{store-load, written-length, written-self}
 use Rattle.certificate.proofs.Ready.{written-trans}
-use Rattle.certificate.proofs.Finish.{initial-settled, certificate-written, kept-past}
+use Rattle.certificate.proofs.Finish.{initial-settled, certificate-written, cleared}
 use borrow.Author.Needs.{needs}
 use Rattle.certificate.proofs.certify_ordered.Statement.{statement}
 use Rattle.certificate.proofs.certify_ordered.Tie as tie
@@ -52,11 +49,11 @@ run-rounds-requires c κs =
           (c .before .before .before .before .settle .last .1 .1 .1 .1 .0) (first .1) (settled .1),
     )
 
-mul-clear-part : tie.Need-mul-clear-part
-mul-clear-part c = search needs
+mul-clear : tie.Need-mul-clear
+mul-clear c = search needs
 
-clear-part-requires : tie.Need-clear-part-requires
-clear-part-requires c κs = search needs
+clear-requires : tie.Need-clear-requires
+clear-requires c κs = search needs
 
 same-length : tie.Need-same-length
 same-length c = search needs
@@ -68,6 +65,8 @@ returns : tie.Need-returns
 returns c =
     let x =
     c .before .before .before .before .before .before .before .before .before .before .before .before .before .before .before .before .before .before .before .before .before .before .before .args in
+    let p =
+    c .before .before .before .before .before .before .before .before .before .before .before .before .before .before .before .before .before .before .before .before .before .before .before .pre in
     let first =
     c .before .before .before .before .before .before .before .before .before .before .before .before .before .before .before .before .before .before .write-initial .ensures in
     let settled =
@@ -78,9 +77,8 @@ returns c =
         certificate-written (x .t .now) (x .n) (x .cells .now) _
             (written-trans (first .0) (written-trans (settled .0) (run .1 .0))) (run .1 .1 .0),
         (
-          c .before .before .clear-part .ensures
-              ∙ ap (λ (l : List ℕ). replicate (x .n * 4) 0 ++ l)
-              (kept-past (x .n) (x .n * 4) (x .scratch .now) _ (run .0) (omega arith)),
+          cleared (x .n) (x .n * 4) (x .scratch .now) _ _ (run .0) (omega arith) (p .0 .3)
+              (c .before .before .clear .ensures),
           λ v h. store-load (c .before .before .before .before .before .before .before .before .run-rounds .last .1 .1 .1 .1 .1 .0) (x .n) v h ∙ run .1 .1 .0 v h,
         ),
       ),
@@ -93,8 +91,8 @@ certify-ordered-spec =
     write-initial-requires
     settle-requires
     run-rounds-requires
-    mul-clear-part
-    clear-part-requires
+    mul-clear
+    clear-requires
     same-length
     same-length-2
     returns)

@@ -35,7 +35,7 @@ load-requires c κs =
     let here =
     operator-here (x .t .now) (x .n) (c .before .before .before .before .before .before .before .pre .1) (x .v) (c .before .before .before .before .before .before .before .pre .0 .2)
     (c .before .before .before .before .record-at .result) (c .before .before .before .before .record-at .ensures) _ _ _ _ (c .before .before .r3 .given .1) in
-    omega (arith, here .1, c .wide .ensures)
+    omega (arith, here .1, c .wide .ensures .0)
 
 wide-requires-2 : tie.Need-wide-requires-2
 wide-requires-2 c κs = search needs
@@ -46,7 +46,7 @@ load-requires-2 c κs =
     let here =
     operator-here (x .t .now) (x .n) (c .before .before .before .before .before .before .before .before .before .pre .1) (x .v) (c .before .before .before .before .before .before .before .before .before .pre .0 .2)
     (c .before .before .before .before .before .before .record-at .result) (c .before .before .before .before .before .before .record-at .ensures) _ _ _ _ (c .before .before .before .before .r3 .given .1) in
-    omega (arith, here .2, c .wide2 .ensures)
+    omega (arith, here .2, c .wide2 .ensures .0)
 
 operator-rule-requires : tie.Need-operator-rule-requires
 operator-rule-requires c κs =
@@ -68,7 +68,7 @@ load-requires-3 c κs =
     let here =
     multiplexer-here (x .t .now) (x .n) (c .before .before .before .before .before .before .before .pre .1) (x .v) (c .before .before .before .before .before .before .before .pre .0 .2)
     (c .before .before .before .before .record-at .result) (c .before .before .before .before .record-at .ensures) _ _ _ _ (c .before .before .r4 .given .1) in
-    omega (arith, here .1, c .wide3 .ensures)
+    omega (arith, here .1, c .wide3 .ensures .0)
 
 wide-requires-4 : tie.Need-wide-requires-4
 wide-requires-4 c κs = search needs
@@ -79,7 +79,7 @@ load-requires-4 c κs =
     let here =
     multiplexer-here (x .t .now) (x .n) (c .before .before .before .before .before .before .before .before .before .pre .1) (x .v) (c .before .before .before .before .before .before .before .before .before .pre .0 .2)
     (c .before .before .before .before .before .before .record-at .result) (c .before .before .before .before .before .before .record-at .ensures) _ _ _ _ (c .before .before .before .before .r4 .given .1) in
-    omega (arith, here .2, c .wide4 .ensures)
+    omega (arith, here .2, c .wide4 .ensures .0)
 
 wide-requires-5 : tie.Need-wide-requires-5
 wide-requires-5 c κs = search needs
@@ -90,7 +90,7 @@ load-requires-5 c κs =
     let here =
     multiplexer-here (x .t .now) (x .n) (c .before .before .before .before .before .before .before .before .before .before .before .pre .1) (x .v) (c .before .before .before .before .before .before .before .before .before .before .before .pre .0 .2)
     (c .before .before .before .before .before .before .before .before .record-at .result) (c .before .before .before .before .before .before .before .before .record-at .ensures) _ _ _ _ (c .before .before .before .before .before .before .r4 .given .1) in
-    omega (arith, here .3, c .wide5 .ensures)
+    omega (arith, here .3, c .wide5 .ensures .0)
 
 multiplexer-rule-requires : tie.Need-multiplexer-rule-requires
 multiplexer-rule-requires c κs =
@@ -112,7 +112,7 @@ load-requires-6 c κs =
     let here =
     register-here (x .t .now) (x .n) (c .before .before .before .before .before .before .before .pre .1) (x .v) (c .before .before .before .before .before .before .before .pre .0 .2)
     (c .before .before .before .before .record-at .result) (c .before .before .before .before .record-at .ensures) _ _ _ (c .before .before .r5 .given .1) in
-    omega (arith, here .1, c .wide6 .ensures)
+    omega (arith, here .1, c .wide6 .ensures .0)
 
 register-rule-requires : tie.Need-register-rule-requires
 register-rule-requires c κs =
@@ -140,8 +140,8 @@ returns-3 c =
     let here =
     operator-here (x .t .now) (x .n) (c .before .before .before .before .before .before .before .before .before .before .before .pre .1) (x .v) (c .before .before .before .before .before .before .before .before .before .before .before .pre .0 .2)
     (c .before .before .before .before .before .before .before .before .record-at .result) (c .before .before .before .before .before .before .before .before .record-at .ensures) _ _ _ _ (c .before .before .before .before .before .before .r3 .given .1) in
-    let a = c .before .before .before .load .ensures ∙ ap (factAt (x .cells .now)) (c .before .before .before .before .wide .ensures) ∙ store-load (x .cells .now) (x .n) _ (here .1) in
-    let b = c .before .load2 .ensures ∙ ap (factAt (x .cells .now)) (c .before .before .wide2 .ensures) ∙ store-load (x .cells .now) (x .n) _ (here .2) in
+    let a = c .before .before .before .load .ensures ∙ ap (factAt (x .cells .now)) (c .before .before .before .before .wide .ensures .0) ∙ store-load (x .cells .now) (x .n) _ (here .1) in
+    let b = c .before .load2 .ensures ∙ ap (factAt (x .cells .now)) (c .before .before .wide2 .ensures .0) ∙ store-load (x .cells .now) (x .n) _ (here .2) in
     c .operator-rule .ensures ∙ rw (a, b) (here .3 (storeOf (x .cells .now) (x .n)))
 
 returns-4 : tie.Need-returns-4
@@ -150,9 +150,9 @@ returns-4 c =
     let here =
     multiplexer-here (x .t .now) (x .n) (c .before .before .before .before .before .before .before .before .before .before .before .before .before .pre .1) (x .v) (c .before .before .before .before .before .before .before .before .before .before .before .before .before .pre .0 .2)
     (c .before .before .before .before .before .before .before .before .before .before .record-at .result) (c .before .before .before .before .before .before .before .before .before .before .record-at .ensures) _ _ _ _ (c .before .before .before .before .before .before .before .before .r4 .given .1) in
-    let a = c .before .before .before .before .before .load3 .ensures ∙ ap (factAt (x .cells .now)) (c .before .before .before .before .before .before .wide3 .ensures) ∙ store-load (x .cells .now) (x .n) _ (here .1) in
-    let b = c .before .before .before .load4 .ensures ∙ ap (factAt (x .cells .now)) (c .before .before .before .before .wide4 .ensures) ∙ store-load (x .cells .now) (x .n) _ (here .2) in
-    let d = c .before .load5 .ensures ∙ ap (factAt (x .cells .now)) (c .before .before .wide5 .ensures) ∙ store-load (x .cells .now) (x .n) _ (here .3) in
+    let a = c .before .before .before .before .before .load3 .ensures ∙ ap (factAt (x .cells .now)) (c .before .before .before .before .before .before .wide3 .ensures .0) ∙ store-load (x .cells .now) (x .n) _ (here .1) in
+    let b = c .before .before .before .load4 .ensures ∙ ap (factAt (x .cells .now)) (c .before .before .before .before .wide4 .ensures .0) ∙ store-load (x .cells .now) (x .n) _ (here .2) in
+    let d = c .before .load5 .ensures ∙ ap (factAt (x .cells .now)) (c .before .before .wide5 .ensures .0) ∙ store-load (x .cells .now) (x .n) _ (here .3) in
     c .multiplexer-rule .ensures ∙ rw (a, b, d) (here .4 (storeOf (x .cells .now) (x .n)))
 
 returns-5 : tie.Need-returns-5
@@ -161,7 +161,7 @@ returns-5 c =
     let here =
     register-here (x .t .now) (x .n) (c .before .before .before .before .before .before .before .before .before .pre .1) (x .v) (c .before .before .before .before .before .before .before .before .before .pre .0 .2)
     (c .before .before .before .before .before .before .record-at .result) (c .before .before .before .before .before .before .record-at .ensures) _ _ _ (c .before .before .before .before .r5 .given .1) in
-    let a = c .before .load6 .ensures ∙ ap (factAt (x .cells .now)) (c .before .before .wide6 .ensures) ∙ store-load (x .cells .now) (x .n) _ (here .1) in
+    let a = c .before .load6 .ensures ∙ ap (factAt (x .cells .now)) (c .before .before .wide6 .ensures .0) ∙ store-load (x .cells .now) (x .n) _ (here .1) in
     c .register-rule .ensures ∙ rw a (here .2 (storeOf (x .cells .now) (x .n)))
 
 pub rule-fact-spec : {M : Type 1} → statement M

@@ -41,7 +41,7 @@ rule-fact-requires c κs =
     let w =
     wire-below (x .t .now) (x .n) (x .scratch .now) (x .wires) (p .0 .2) (p .1 .1 .0)
     (c .before .before .before .before .loop .i) (c .before .wide .result)
-    (c .before .before .before .loop-test .taken) (c .before .wide .ensures) in (
+    (c .before .before .before .loop-test .taken) (c .before .wide .ensures .0) in (
       (
         p .0 .0,
         omega (
@@ -49,7 +49,7 @@ rule-fact-requires c κs =
           written-length (c .before .before .before .before .loop .inv .1 .written)
               (p .0 .1),
         ),
-        w .0,
+        w,
       ),
       p .1 .0,
     )
@@ -61,12 +61,12 @@ store-requires c κs =
     let w =
     wire-below (x .t .now) (x .n) (x .scratch .now) (x .wires) (p .0 .2) (p .1 .1 .0)
     (c .before .before .before .before .before .before .loop .i) (c .before .before .before .wide .result)
-    (c .before .before .before .before .before .loop-test .taken) (c .before .before .before .wide .ensures) in
+    (c .before .before .before .before .before .loop-test .taken) (c .before .before .before .wide .ensures .0) in
     omega (
       arith,
       written-length (c .before .before .before .before .before .before .loop .inv .1 .written)
           (p .0 .1),
-      w .0,
+      w,
     )
 
 add-i : tie.Need-add-i Inv-loop μ-loop
@@ -92,7 +92,7 @@ loop-again c =
           (one-passed (x .t .now) (x .n) (x .scratch .now) (x .wires) (p .0 .2) (p .1 .1 .0) (x .cells .now) cells i
           (c .before .before .before .before .before .before .before .before .before .loop .inv .1) v f
           (c .before .before .before .before .before .before .before .before .loop-test .taken)
-          (c .before .before .before .before .before .before .wide .ensures)
+          (c .before .before .before .before .before .before .wide .ensures .0)
           (c .before .before .before .before .rule-fact .ensures) (c .before .before .store .ensures .1)),
     )
 

@@ -47,7 +47,7 @@ record-at-requires c κs =
     let here =
     listed-register (x .t .now) (x .n) (x .scratch .now) (x .scratch .now) (x .first) j (c .wide .result)
     (kept-same (x .n) (x .scratch .now)) (p .1 .1 .1 .0) (omega (arith, c .before .before .loop-test .taken))
-    (omega (arith, c .before .before .loop-test .taken)) (c .wide .ensures) in
+    (omega (arith, c .before .before .loop-test .taken)) (c .wide .ensures .0) in
     omega (arith, here .1)
 
 add-staged-fact : tie.Need-add-staged-fact Inv-loop μ-loop
@@ -73,7 +73,7 @@ store-requires c κs =
     (c .before .before .before .before .wide .result) (kept-same (x .n) (x .scratch .now)) (p .1 .1 .1 .0)
     (omega (arith, c .before .before .before .before .before .before .loop-test .taken))
     (omega (arith, c .before .before .before .before .before .before .loop-test .taken))
-    (c .before .before .before .before .wide .ensures) in
+    (c .before .before .before .before .wide .ensures .0) in
     omega (arith, here .1, written-length (inv .1 .written) (p .0 .1))
 
 add-j : tie.Need-add-j Inv-loop μ-loop
@@ -95,7 +95,7 @@ loop-again c =
     (c .before .before .before .before .before .before .before .wide .result)
     (kept-same (x .n) (x .scratch .now)) (p .1 .1 .1 .0)
     (omega (arith, c .before .before .before .before .before .before .before .before .before .loop-test .taken))
-    (omega (arith, c .before .before .before .before .before .before .before .before .before .loop-test .taken)) (c .before .before .before .before .before .before .before .wide .ensures) in
+    (omega (arith, c .before .before .before .before .before .before .before .before .before .loop-test .taken)) (c .before .before .before .before .before .before .before .wide .ensures .0) in
     let C = circuit (x .t .now) (x .n) in
     let s = storeOf (x .cells .now) (x .n) in
     let v = c .before .before .before .before .before .before .before .wide .result in

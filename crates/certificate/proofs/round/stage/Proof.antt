@@ -54,14 +54,14 @@ rule-fact-requires c κs =
     let here =
     listed-register (x .t .now) (x .n) (x .scratch .now) (c .before .before .before .loop .scratch) (x .first) j
     (c .wide .result) (inv .1 .kept) (p .1 .1 .1 .1) (omega (arith, c .before .before .loop-test .taken))
-    (omega (arith, c .before .before .loop-test .taken)) (c .wide .ensures) in
+    (omega (arith, c .before .before .loop-test .taken)) (c .wide .ensures .0) in
     ((p .0 .0, p .0 .1, here .1), p .1 .1 .1 .0)
 
 byte-requires : tie.Need-byte-requires Inv-loop μ-loop
 byte-requires c κs = search needs
 
-widen-requires : tie.Need-widen-requires Inv-loop μ-loop
-widen-requires c κs = search needs
+wide16-requires : tie.Need-wide16-requires Inv-loop μ-loop
+wide16-requires c κs = search needs
 
 add-scratch : tie.Need-add-scratch Inv-loop μ-loop
 add-scratch c = omega arith
@@ -83,7 +83,7 @@ load-requires c κs =
     (c .before .before .before .before .before .before .loop .scratch) (x .first) j
     (c .before .before .before .wide .result) (inv .1 .kept) (p .1 .1 .1 .1)
     (omega (arith, c .before .before .before .before .before .loop-test .taken))
-    (omega (arith, c .before .before .before .before .before .loop-test .taken)) (c .before .before .before .wide .ensures) in
+    (omega (arith, c .before .before .before .before .before .loop-test .taken)) (c .before .before .before .wide .ensures .0) in
     omega (arith, here .1)
 
 differs-requires : tie.Need-differs-requires Inv-loop μ-loop
@@ -111,7 +111,7 @@ loop-again c =
     (c .before .before .before .before .before .before .before .before .before .loop .scratch) (x .first) j
     (c .before .before .before .before .before .before .wide .result) (inv .1 .kept) (p .1 .1 .1 .1)
     (omega (arith, c .before .before .before .before .before .before .before .before .loop-test .taken))
-    (omega (arith, c .before .before .before .before .before .before .before .before .loop-test .taken)) (c .before .before .before .before .before .before .wide .ensures) in
+    (omega (arith, c .before .before .before .before .before .before .before .before .loop-test .taken)) (c .before .before .before .before .before .before .wide .ensures .0) in
     let C = circuit (x .t .now) (x .n) in
     let s = storeOf (x .cells .now) (x .n) in
     let fact : c .before .before .before .before .before .rule-fact .result ≡ rule C s
@@ -123,8 +123,8 @@ loop-again c =
       omega arith,
       one-staged C s (x .n) (x .scratch .now)
           (c .before .before .before .before .before .before .before .before .before .loop .scratch) j
-          (c .before .before .before .widen .result) (inv .1) (omega arith) (p .1 .0 .0)
-          (c .before .before .before .widen .ensures ∙ c .before .before .before .before .byte .ensures ∙ ap factByte fact),
+          (c .before .before .before .wide16 .result) (inv .1) (omega arith) (p .1 .0 .0)
+          (c .before .before .before .wide16 .ensures .0 ∙ c .before .before .before .before .byte .ensures ∙ ap factByte fact),
       c .either .ensures
           ∙ ap (λ (d : Bool). d || c .before .before .before .before .before .before .before .before .before .loop .changed) (c .before .differs .ensures ∙ ap₂ (λ (f g : Fact). not (same f g)) fact old)
           ∙ changes-more C s j
@@ -161,7 +161,7 @@ stage-spec =
     wide-requires
     rule-fact-requires
     byte-requires
-    widen-requires
+    wide16-requires
     add-scratch
     mul-scratch
     slice-write-scratch

@@ -39,13 +39,13 @@ loop-again c =
     let v = l .loop .inv in
     let ne : v .0 ≡ l .loop .i → ⊥ = λ z.
     c .if1 .taken
-    (c .before .wide .ensures ∙ ap (λ (x : ℕ). getD (l .before .before .args .s .now) x 0) (sym z) ∙ v .3) in
+    (c .before .wide .ensures .0 ∙ ap (λ (x : ℕ). getD (l .before .before .args .s .now) x 0) (sym z) ∙ v .3) in
     (v .0, omega arith, v .2, v .3, omega arith)
 
 returns : tie.Need-returns Inv-loop μ-loop
 returns c =
     let v = c .before .before .before .loop .inv in
-    (v .4, omega arith, sym (c .before .wide .ensures) ∙ c .if1 .left)
+    (v .4, omega arith, sym (c .before .wide .ensures .0) ∙ c .if1 .left)
 
 pub find-spec : {M : Type 1} → statement M
 find-spec =

@@ -15,7 +15,7 @@ wide-requires c κs = search needs
 returns : tie.Need-returns
 returns c =
     let a = c .before .before .before in
-    c .wide .ensures
+    c .wide .ensures .0
     ∙ c .before .wire-uses .ensures
     ∙ sym (last-decode (a .args .t .now) (a .args .n) (a .args .v) (a .pre .1))
 

@@ -14,7 +14,7 @@ use Rattle.schedule.proofs.walk.next_use.Tie as tie
 below : (c : tie.After-wide) → c .wide .result < c .before .before .before .before .args .n
 below c =
     let a = c .before .before .before .before in
-    rw (c .wide .ensures) (a .pre .1 .1 .0 .stacked-at (a .args .w .top) (omega arith) (a .pre .1 .1 .1) .0)
+    rw (c .wide .ensures .0) (a .pre .1 .1 .0 .stacked-at (a .args .w .top) (omega arith) (a .pre .1 .1 .1) .0)
 
 read : (c : tie.After-last-state) → let a = c .before .before .before .before .before .before .before in
     steps.TopRead (a .args .t .now) (a .args .n) (a .args .s .now) (a .args .w)
@@ -22,7 +22,7 @@ read : (c : tie.After-last-state) → let a = c .before .before .before .before 
 read c =
     let a = c .before .before .before .before .before .before .before in
     steps.top-read (a .args .t .now) (a .args .n) (a .args .s .now) (a .args .w) (a .pre .1 .1 .0) (a .pre .1 .1 .1)
-    (c .before .before .before .wide .ensures) (c .before .wide2 .ensures) (c .last-state .ensures)
+    (c .before .before .before .wide .ensures .0) (c .before .wide2 .ensures .0) (c .last-state .ensures)
 
 -- the use is a record
 below-use : (c : tie.After-used-at)
