@@ -7,3 +7,4 @@ pub mod Ready
 pub mod Running
 pub mod Finish
 pub mod Promise
+pub mod Fixed

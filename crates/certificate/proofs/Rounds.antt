@@ -13,9 +13,9 @@ use lib.Dec.{T}
 use lib.ListN.{length, getD, take}
 use lib.Seq.{ext-getD, getD-take, length-take-le}
 use Rattle.net.specs.Tests.{allBelow}
-use Rattle.net.specs.Net.{input, wire, register, settle, step, round, after, stopped, Counts}
+use Rattle.net.specs.Net.{register, settle, step, round, after, stopped, Counts}
 use Rattle.net.proofs.Bools.{T-of, of-T, true-false, all-at, all-of}
-use Rattle.net.proofs.Settle.{by-role, Ranked, step-input, step-wire, step-register, settle-input, settle-register, settle-settled, settle-unique}
+use Rattle.net.proofs.Settle.{Ranked, Agree, step-register, settle-register, settle-agree, step-agree}
 use Rattle.net.proofs.Rounds.{after-suc}
 use Rattle.circuit.specs.Record.{role}
 use Rattle.circuit.specs.Circuit.{Circuit, circuit, recordOf, graph, NoLoop}
@@ -30,34 +30,12 @@ use Rattle.schedule.specs.Schedule.{registerList, Ordered}
 use Rattle.schedule.proofs.Registers.{registerList-register, registerList-all}
 use Rattle.schedule.proofs.Orders.{ordered-no-loop}
 use Rattle.certificate.specs.Cells.{storeOf, Written}
-use Rattle.certificate.specs.Staging.{KeptAround, staysAt}
+use Rattle.certificate.specs.Staging.{staysAt}
 use Rattle.certificate.specs.Ready.{Ready}
-
--- two stores agree on the circuit's variables
-abbrev Agree : Circuit → (ℕ → Fact) → (ℕ → Fact) → Type 0
-Agree c s t = (v : ℕ) → v < length c → s v ≡ t v
 
 module _ (c : Circuit) (inside : Inside c) (noLoop : NoLoop c) where
   ranked : Ranked (graph c)
   ranked = circuit-ranked c inside noLoop
-
-  -- ---- stores that agree settle and step alike
-
-  pub settle-agree : (s t : ℕ → Fact) → Agree c s t
-      → Agree c (settle (graph c) (rule c) s) (settle (graph c) (rule c) t)
-  settle-agree s t h =
-      settle-unique ranked (rule c) (rules-local c) t (settle (graph c) (rule c) s)
-      (settle-settled ranked (rule c) (rules-local c) s)
-      (λ v below e. settle-input (graph c) (rule c) s v e ∙ h v below)
-      (λ v below e. settle-register (graph c) (rule c) s v e ∙ h v below)
-
-  step-agree : (s t : ℕ → Fact) → Agree c s t → Agree c (step (graph c) (rule c) s) (step (graph c) (rule c) t)
-  step-agree s t h v below =
-      by-role (role (recordOf c v))
-      (λ e. step-input (graph c) (rule c) s v e ∙ h v below ∙ sym (step-input (graph c) (rule c) t v e))
-      (λ e. step-wire (graph c) (rule c) s v e ∙ h v below ∙ sym (step-wire (graph c) (rule c) t v e))
-      (λ e. step-register (graph c) (rule c) s v e ∙ rules-agree c inside s t h v below ∙ sym
-      (step-register (graph c) (rule c) t v e))
 
   round-register : (s : ℕ → Fact) (v : ℕ) → role (recordOf c v) ≡ register → round (graph c) (rule c) s v ≡ rule c s v
   unfolding round
@@ -66,20 +44,23 @@ module _ (c : Circuit) (inside : Inside c) (noLoop : NoLoop c) where
 
   -- ---- one round more
 
-  pub next-round : (k : ℕ) (s committed settled : ℕ → Fact) → Agree c s (after (graph c) (rule c) k (initialStore c))
-      → Agree c committed (step (graph c) (rule c) s) → Agree c settled (settle (graph c) (rule c) committed)
-      → Agree c settled (after (graph c) (rule c) (k + 1) (initialStore c))
+  pub next-round : (k : ℕ) (s committed settled : ℕ → Fact) → Agree (graph c) s (after (graph c) (rule c) k (initialStore c))
+      → Agree (graph c) committed (step (graph c) (rule c) s) → Agree (graph c) settled (settle (graph c) (rule c) committed)
+      → Agree (graph c) settled (after (graph c) (rule c) (k + 1) (initialStore c))
   unfolding round
   next-round k s committed settled h stepped done v below =
       done v below
-      ∙ settle-agree committed (step (graph c) (rule c) (after (graph c) (rule c) k (initialStore c)))
-      (λ u l. stepped u l ∙ step-agree s (after (graph c) (rule c) k (initialStore c)) h u l) v below
+      ∙ settle-agree ranked (rule c) (rules-local c) committed (step (graph c) (rule c) (after (graph c) (rule c) k (initialStore c)))
+      (λ u l.
+      stepped u l
+      ∙ step-agree (graph c) (rule c) s (after (graph c) (rule c) k (initialStore c)) h
+      (rules-agree c inside s (after (graph c) (rule c) k (initialStore c)) h) u l) v below
       ∙ ap (λ (f : ℕ → Fact). f v) (sym (after-suc (graph c) (rule c) k (initialStore c)))
       ∙ ap (λ (j : ℕ). after (graph c) (rule c) j (initialStore c) v) (sym (add-one k))
 
   -- ---- when they stop
 
-  module _ (k : ℕ) (s : ℕ → Fact) (h : Agree c s (after (graph c) (rule c) k (initialStore c)))
+  module _ (k : ℕ) (s : ℕ → Fact) (h : Agree (graph c) s (after (graph c) (rule c) k (initialStore c)))
       (few : k ≤ rounds c) where
     counted : Counts (graph c) (rule c) (initialStore c) (rounds c)
     counted = rounds-counted c inside noLoop
@@ -123,8 +104,8 @@ module _ (c : Circuit) (inside : Inside c) (noLoop : NoLoop c) where
                 T-of _ (ap (λ (f : Fact). same f (s v)) same-fact ∙ same-refl (s v))
 
   -- the store in which they stop is the certificate
-  pub certificate-reached : (k : ℕ) (s : ℕ → Fact) → Agree c s (after (graph c) (rule c) k (initialStore c))
+  pub certificate-reached : (k : ℕ) (s : ℕ → Fact) → Agree (graph c) s (after (graph c) (rule c) k (initialStore c))
       → k ≡ rounds c
-      → Agree c s (certificate c)
+      → Agree (graph c) s (certificate c)
   unfolding certificate stopped rounds
   certificate-reached k s h e v below = h v below ∙ ap (λ (j : ℕ). after (graph c) (rule c) j (initialStore c) v) e

@@ -18,13 +18,14 @@ use Rattle.fact.specs.Certificate as definition
 use Rattle.fact.specs.Certificate.{initialStore, rounds, certificate}
 use Rattle.fact.proofs.Certificate.{rounds-few}
 use Rattle.schedule.specs.Schedule.{registerList}
+use Rattle.schedule.specs.Scratch.{KeptOutside}
+use Rattle.schedule.proofs.Filled.{outside-none, outside-trans}
 use Rattle.schedule.proofs.Orders.{ordered-no-loop}
 use Rattle.certificate.specs.Cells.{storeOf, Written}
-use Rattle.certificate.specs.Staging.{KeptAround, staysAt}
+use Rattle.certificate.specs.Staging.{staysAt}
 use Rattle.certificate.specs.Ready.{Ready}
 use Rattle.certificate.proofs.Rounds.{next-round, stopped-here, not-stopped, certificate-reached}
-use Rattle.certificate.proofs.Staging.{kept-same}
-use Rattle.certificate.proofs.Ready.{kept-trans, written-trans, ready-kept}
+use Rattle.certificate.proofs.Ready.{written-trans, ready-kept}
 
 at-most-one : (r : Role) → elim r as (λ _. ℕ) [ input ↦ zero | wire ↦ zero | register ↦ 1 ] ≤ 1
 at-most-one input = zero-le
@@ -55,7 +56,7 @@ module _ {t : List ℕ} {n : ℕ} {scratch cells : List ℕ} {wires registers : 
 -- before the round after the first `count`
 pub record Running (t : List ℕ) (n : ℕ) (scratch₀ cells₀ scratch cells : List ℕ) (wires registers count : ℕ) : Type 0 where
   pub ready : Ready t n scratch cells wires registers
-  pub kept : KeptAround n scratch₀ scratch
+  pub kept : KeptOutside n (n + n) scratch₀ scratch
   pub written : Written n cells₀ cells
   pub store : (v : ℕ) → v < n
       → storeOf cells n v ≡ after (graph (circuit t n)) (rule (circuit t n)) count (initialStore (circuit t n)) v
@@ -89,7 +90,7 @@ module _ {t : List ℕ} {n : ℕ} {scratch₀ cells₀ scratch cells : List ℕ}
       certificate-reached (circuit t n) (inside (run .ready)) (noLoop (run .ready)) count (storeOf cells n) agree e v
       (omega (arith, circuit-length t n))
 
-  module _ {scratch′ committed settled : List ℕ} (k : KeptAround n scratch scratch′) (w : Written n cells committed)
+  module _ {scratch′ committed settled : List ℕ} (k : KeptOutside n (n + n) scratch scratch′) (w : Written n cells committed)
       (w′ : Written n committed settled) where
     pub run-next : count < rounds (circuit t n)
         → ((v : ℕ) → v < n → storeOf committed n v ≡ step (graph (circuit t n)) (rule (circuit t n))
@@ -100,7 +101,7 @@ module _ {t : List ℕ} {n : ℕ} {scratch₀ cells₀ scratch cells : List ℕ}
     run-next l stepped done =
         record {
           ready = ready-kept (run .ready) k (written-trans w w′);
-          kept = kept-trans (run .kept) k;
+          kept = outside-trans (run .kept) k;
           written = written-trans (run .written) (written-trans w w′);
           store = λ v h.
               next-round (circuit t n) (inside (run .ready)) (noLoop (run .ready)) count (storeOf cells n)
@@ -118,4 +119,4 @@ pub run-start : {t : List ℕ} {n : ℕ} {scratch cells : List ℕ} {wires regis
     → Running t n scratch cells scratch cells wires registers 0
 unfolding after
 run-start {n} {scratch} r h =
-    record { ready = r; kept = kept-same n scratch; written = r .written; store = h; few = zero-le }
+    record { ready = r; kept = outside-none n (n + n) scratch; written = r .written; store = h; few = zero-le }

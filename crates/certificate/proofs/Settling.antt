@@ -5,7 +5,7 @@ use mathlib.Core.List.{List}
 use Prim.Native.Nat.{ℕ, _+_, _*_, _^_, _<_, _≤_}
 use native.Mathlib.Omega.{arith}
 use lib.ListN.{length, getD, take}
-use lib.Seq.{sets, getD-take, length-take-le}
+use lib.Seq.{sets, length-take-le}
 use Rattle.net.specs.Net.{settle}
 use Rattle.circuit.specs.declared.refusal.Check.the-variants.{Passed}
 use Rattle.circuit.specs.Circuit.{circuit, graph}
@@ -16,6 +16,7 @@ use Rattle.fact.specs.Fact.{factNumber, factBytes}
 use Rattle.fact.specs.Rule.{rule}
 use Rattle.fact.proofs.Certificate.{rules-local}
 use Rattle.schedule.specs.Schedule.{Ordered}
+use Rattle.schedule.proofs.Standing.{wire-at, wire-below}
 use Rattle.schedule.proofs.Along.{along, along-none, along-next, along-settle}
 use Rattle.certificate.specs.Cells.{storeOf, Written}
 use Rattle.certificate.proofs.Cells.{written-store, store-here, store-elsewhere}
@@ -35,14 +36,6 @@ module _ (t : List ℕ) (n : ℕ) (scratch : List ℕ) (wires : ℕ) (few : wire
   order-length : length (take wires scratch) ≡ wires
   order-length = length-take-le wires scratch few
 
-  order-at : (i : ℕ) → i < wires → getD (take wires scratch) i 0 ≡ getD scratch i 0
-  order-at i h = getD-take wires scratch i 0 h
-
-  pub wire-below : (i v : ℕ) → i < wires → v ≡ getD scratch i 0 → v < n
-  wire-below i v h e =
-      let same : getD (take wires scratch) i 0 ≡ v = order-at i h ∙ sym e in
-      omega (arith, ordered .wires i (omega (arith, order-length)) .0, circuit-length t n, same)
-
   module _ (entry cells : List ℕ) (i : ℕ) (p : Passed-wires t n (take wires scratch) entry cells i) where
     pub one-passed : (v : ℕ) (f : Fact) → i < wires → v ≡ getD scratch i 0 → f ≡ rule (circuit t n) (storeOf cells n) v
         → factNumber f < 2 ^ 32 → Passed-wires t n (take wires scratch) entry (sets cells (v * 8) (factBytes f)) (i + 1)
@@ -57,10 +50,10 @@ module _ (t : List ℕ) (n : ℕ) (scratch : List ℕ) (wires : ℕ) (few : wire
         }
       where
         below : v < n
-        below = wire-below i v h e
+        below = wire-below t n scratch wires i v few ordered h e
 
         same : getD (take wires scratch) i 0 ≡ v
-        same = order-at i h ∙ sym e
+        same = wire-at t n scratch wires i h ∙ sym e
 
     pub all-passed : checkRecords t n ≡ Passed → wires ≤ i → i ≤ wires → (v : ℕ) → v < n
         → storeOf cells n v ≡ settle (graph (circuit t n)) (rule (circuit t n)) (storeOf entry n) v

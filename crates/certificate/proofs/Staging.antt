@@ -14,23 +14,24 @@ use lib.Dec.{eqb}
 use lib.ListN.{length, getD, set, length-set}
 use lib.Seq.{sets, getD-set-same, getD-set-other}
 use Rattle.net.specs.Tests.{allBelow}
-use Rattle.net.specs.Net.{input, wire, register, step}
+use Rattle.net.specs.Net.{register, step}
 use Rattle.net.proofs.Bools.{cond-case}
-use Rattle.net.proofs.Settle.{by-role, step-input, step-wire, step-register}
 use Rattle.circuit.specs.declared.record.Record.{Record}
 use Rattle.circuit.specs.declared.record.Record.the-variants.{Input, Constant, Operator, Multiplexer, Register}
 use Rattle.circuit.specs.Record.{role}
-use Rattle.circuit.specs.Circuit.{Circuit, circuit, recordOf, graph}
+use Rattle.circuit.specs.Circuit.{Circuit, recordOf, graph}
 use Rattle.circuit.specs.Machine.{initial}
-use Rattle.circuit.proofs.Tables.{circuit-length}
 use Rattle.fact.specs.declared.Fact.{Fact}
 use Rattle.fact.specs.declared.Fact.the-variants.{Always, Open, Marked}
 use Rattle.fact.specs.Fact.{same, join, narrow, factByte, factNumber, factBytes, factOf}
 use Rattle.fact.specs.Rule.{ruleOf, rule}
 use Rattle.schedule.specs.Schedule.{registerList}
-use Rattle.schedule.proofs.Registers.{registerList-register, registerList-ascending, registerList-all}
+use Rattle.schedule.specs.Scratch.{KeptOutside}
+use Rattle.schedule.proofs.Filled.{outside-none, outside-set}
+use Rattle.schedule.proofs.Registers.{registerList-register}
+use Rattle.schedule.proofs.Together.{Stepped, none-stepped, one-stepped, all-stepped}
 use Rattle.certificate.specs.Cells.{storeOf, Written}
-use Rattle.certificate.specs.Staging.{Listed, StagedTo, KeptAround, staysAt, stagedFact}
+use Rattle.certificate.specs.Staging.{StagedTo, staysAt, stagedFact}
 use Rattle.certificate.proofs.Cells.{written-store, store-here, store-elsewhere}
 
 -- ---- a staged byte gives the register's fact back
@@ -60,18 +61,15 @@ pub changes-more : (c : Circuit) (s : ℕ → Fact) (j : ℕ) (changed : Bool) �
 unfolding allBelow
 changes-more c s j changed e = rw (add-one j, e) (not-and (staysAt c s j) (allBelow (staysAt c s) j))
 
-pub kept-same : (n : ℕ) (scratch : List ℕ) → KeptAround n scratch scratch
-kept-same n scratch = record { long = refl; below = λ i h. refl; past = λ i h. refl }
-
 -- the first j registers are staged
 pub record StagedSo (c : Circuit) (s : ℕ → Fact) (n : ℕ) (entry scratch : List ℕ) (j : ℕ) : Type 0 where
-  pub kept : KeptAround n entry scratch
+  pub kept : KeptOutside n (n + n) entry scratch
   pub staged : StagedTo c s scratch n j
 
 pub none-staged : (c : Circuit) (s : ℕ → Fact) (n : ℕ) (entry : List ℕ) → StagedSo c s n entry entry 0
 none-staged c s n entry =
     record {
-      kept = kept-same n entry;
+      kept = outside-none n (n + n) entry;
       staged = λ j h. absurd (not-suc-le-zero h);
     }
 
@@ -81,12 +79,7 @@ pub one-staged : (c : Circuit) (s : ℕ → Fact) (n : ℕ) (entry scratch : Lis
     → StagedSo c s n entry (set scratch (n + j) byte) (j + 1)
 one-staged c s n entry scratch j byte p h room is =
     record {
-      kept =
-          record {
-            long = length-set scratch (n + j) byte ∙ p .kept .long;
-            below = λ i k. getD-set-other scratch (n + j) i byte 0 (λ e. omega arith) ∙ p .kept .below i k;
-            past = λ i k. getD-set-other scratch (n + j) i byte 0 (λ e. omega arith) ∙ p .kept .past i k;
-          };
+      kept = outside-set (n + j) byte (omega arith) (omega arith) (p .kept);
       staged = λ k q. elim (ℕ-discrete k j) [ yes e ↦ here k e | no ne ↦ there k ne (omega arith) ];
     }
   where
@@ -97,31 +90,16 @@ one-staged c s n entry scratch j byte p h room is =
         → getD (set scratch (n + j) byte) (n + k) 0 ≡ factByte (rule c s (getD (registerList c) k 0))
     there k ne q = getD-set-other scratch (n + j) (n + k) byte 0 (λ e. ne (omega arith)) ∙ p .staged k q
 
--- what stands in the scratch at register j's place is that register
-pub listed-register : (t : List ℕ) (n : ℕ) (entry scratch : List ℕ) (first j v : ℕ) → KeptAround n entry scratch
-    → Listed (circuit t n) entry first → first + j < n → j < length (registerList (circuit t n))
-    → v ≡ getD scratch (first + j) 0
-    → (v ≡ getD (registerList (circuit t n)) j 0) × (v < n) × (role (recordOf (circuit t n) v) ≡ register)
-listed-register t n entry scratch first j v kept listed h l e =
-    let is : v ≡ getD (registerList (circuit t n)) j 0 = e ∙ kept .below (first + j) h ∙ listed j l in
-    let (below, is-register) = registerList-register (circuit t n) j l in (
-      is,
-      omega (arith, circuit-length t n),
-      subst (λ (u : ℕ). role (recordOf (circuit t n) u) ≡ register)
-          (sym is) is-register,
-    )
-
 -- ---- writing
 
 -- the first j registers have their staged facts
 pub record Committed (c : Circuit) (n : ℕ) (entry cells : List ℕ) (j : ℕ) : Type 0 where
   pub written : Written n entry cells
-  pub done : (k : ℕ) → k < j
-      → storeOf cells n (getD (registerList c) k 0) ≡ rule c (storeOf entry n) (getD (registerList c) k 0)
-  pub rest : (u : ℕ) → ((k : ℕ) → k < j → getD (registerList c) k 0 ≡ u → ⊥) → storeOf cells n u ≡ storeOf entry n u
+  pub stepped : Stepped c (rule c) (storeOf entry n) (storeOf cells n) j
 
 pub none-committed : (c : Circuit) (n : ℕ) (cells : List ℕ) → Written n cells cells → Committed c n cells cells 0
-none-committed c n cells w = record { written = w; done = λ k h. absurd (not-suc-le-zero h); rest = λ u h. refl }
+none-committed c n cells w =
+    record { written = w; stepped = none-stepped c (rule c) (storeOf cells n) (storeOf cells n) (λ v. refl) }
 
 module _ (c : Circuit) (n : ℕ) (size : length c ≡ n) (entry cells : List ℕ) (j : ℕ)
     (p : Committed c n entry cells j) where
@@ -131,47 +109,20 @@ module _ (c : Circuit) (n : ℕ) (size : length c ≡ n) (entry cells : List ℕ
   one-committed v f h e is fit =
       record {
         written = written-store (p .written) v f below fit;
-        done = λ k q. elim (ℕ-discrete k j) [ yes d ↦ here k d | no ne ↦ there k (omega arith) ];
-        rest = λ u none.
-            store-elsewhere (p .written) v f below fit u (λ d. none j (omega arith) (sym (d ∙ e)))
-            ∙ p .rest u (λ k q. none k (omega arith));
+        stepped =
+            one-stepped c (rule c) (storeOf entry n) (storeOf cells n) (storeOf (sets cells (v * 8) (factBytes f)) n) j
+            (p .stepped) h
+            (rw (← e) (store-here (p .written) v f below fit ∙ is))
+            (λ u ne. store-elsewhere (p .written) v f below fit u (λ d. ne (d ∙ e)));
       }
     where
       below : v < n
       below = omega (arith, registerList-register c j h .0, e)
 
-      here : (k : ℕ) → k ≡ j → storeOf (sets cells (v * 8) (factBytes f)) n (getD (registerList c) k 0)
-          ≡ rule c (storeOf entry n) (getD (registerList c) k 0)
-      here k d = rw (d, ← e) (store-here (p .written) v f below fit ∙ is)
-
-      there : (k : ℕ) → k < j → storeOf (sets cells (v * 8) (factBytes f)) n (getD (registerList c) k 0)
-          ≡ rule c (storeOf entry n) (getD (registerList c) k 0)
-      there k q =
-          store-elsewhere (p .written) v f below fit (getD (registerList c) k 0)
-          (λ d. omega (arith, registerList-ascending c k j q h, d, e))
-          ∙ p .done k q
-
   pub all-committed : length (registerList c) ≤ j → j ≤ length (registerList c) → (v : ℕ) → v < n
       → storeOf cells n v ≡ step (graph c) (rule c) (storeOf entry n) v
   all-committed all few v below =
-      by-role (role (recordOf c v))
-      (λ d. p .rest v (no-register (λ q. no-input (sym d ∙ q))) ∙ sym
-      (step-input (graph c) (rule c) (storeOf entry n) v d))
-      (λ d. p .rest v (no-register (λ q. no-wire (sym d ∙ q))) ∙ sym
-      (step-wire (graph c) (rule c) (storeOf entry n) v d))
-      (λ d.
-      let (k, l, e) = registerList-all c v (omega arith) d in
-      rw e at (p .done k (omega arith)) ∙ sym (step-register (graph c) (rule c) (storeOf entry n) v d))
-    where
-      no-input : input ≡ register → ⊥
-      no-input e = let z : _≡_ {A = ℕ} 0 1 = cc in omega arith
-
-      no-wire : wire ≡ register → ⊥
-      no-wire e = let z : _≡_ {A = ℕ} 0 1 = cc in omega arith
-
-      no-register : (role (recordOf c v) ≡ register → ⊥) → (k : ℕ) → k < j → getD (registerList c) k 0 ≡ v → ⊥
-      no-register q k l e =
-          q (subst (λ (u : ℕ). role (recordOf c u) ≡ register) e (registerList-register c k (omega arith) .1))
+      all-stepped c (rule c) (storeOf entry n) (storeOf cells n) j (p .stepped) all few v (omega arith)
 
 -- the fact that is written is the register's rule's
 pub staged-rule : (c : Circuit) (s : ℕ → Fact) (v byte : ℕ) (r : Record) (f : Fact) → role (recordOf c v) ≡ register

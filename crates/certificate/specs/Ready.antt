@@ -7,9 +7,8 @@ use lib.ListN.{length, take}
 use Rattle.circuit.specs.declared.refusal.Check.the-variants.{Passed}
 use Rattle.circuit.specs.Circuit.{circuit}
 use Rattle.circuit.specs.Checks.{checkRecords}
-use Rattle.schedule.specs.Schedule.{registerList, Ordered}
+use Rattle.schedule.specs.Schedule.{registerList, Listed, Ordered}
 use Rattle.certificate.specs.Cells.{Written}
-use Rattle.certificate.specs.Staging.{Listed}
 
 pub record Ready (t : List ℕ) (n : ℕ) (scratch cells : List ℕ) (wires registers : ℕ) : Type 0 where
   pub table : n * 16 ≤ length t

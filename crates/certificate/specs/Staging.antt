@@ -1,11 +1,11 @@
--- A round's registers: where they stand in the scratch, and their next facts staged behind the order as byte 0 of
--- each, for contracts of what works on them.
+-- A round's registers: their next facts, staged in the scratch behind the order as byte 0 of each, for contracts of
+-- what works on them.
 -- Assumes nothing.
 use mathlib.Core.Path.{_≡_}
 use mathlib.Core.Bool.{Bool}
 use mathlib.Core.List.{List}
-use Prim.Native.Nat.{ℕ, _+_, _<_, _≤_}
-use lib.ListN.{length, getD}
+use Prim.Native.Nat.{ℕ, _+_, _<_}
+use lib.ListN.{getD}
 use Rattle.circuit.specs.declared.record.Record.{Record}
 use Rattle.circuit.specs.Circuit.{Circuit}
 use Rattle.circuit.specs.Machine.{initial}
@@ -14,19 +14,9 @@ use Rattle.fact.specs.Fact.{same, factByte, factOf}
 use Rattle.fact.specs.Rule.{rule}
 use Rattle.schedule.specs.Schedule.{registerList}
 
--- the registers stand in the scratch from a place on
-abbrev pub Listed : Circuit → List ℕ → ℕ → Type 0
-Listed c scratch first = (j : ℕ) → j < length (registerList c) → getD scratch (first + j) 0 ≡ getD (registerList c) j 0
-
 -- byte 0 of each register's next fact stands in the scratch from a place on, for the first k registers
 abbrev pub StagedTo : Circuit → (ℕ → Fact) → List ℕ → ℕ → ℕ → Type 0
 StagedTo c s scratch at k = (j : ℕ) → j < k → getD scratch (at + j) 0 ≡ factByte (rule c s (getD (registerList c) j 0))
-
--- the scratch of n records but for its numbers from n up to n + n is as it was
-pub record KeptAround (n : ℕ) (entry exit : List ℕ) : Type 0 where
-  pub long : length exit ≡ length entry
-  pub below : (i : ℕ) → i < n → getD exit i 0 ≡ getD entry i 0
-  pub past : (i : ℕ) → n + n ≤ i → getD exit i 0 ≡ getD entry i 0
 
 -- register j stays as it is
 abbrev pub staysAt : Circuit → (ℕ → Fact) → ℕ → Bool

@@ -6,19 +6,16 @@ ghost use lib.ListN.{length, take, drop, replicate};
 ghost use Rattle.net.specs.Net.{listBelow};
 ghost use Rattle.circuit.specs.declared.refusal.Check.the-variants.{Passed};
 ghost use Rattle.circuit.specs.Circuit.{circuit};
-ghost use Rattle.circuit.specs.Checks.{checkRecords};
+ghost use Rattle.circuit.specs.Checks.{checkRecords, checkCall};
 ghost use Rattle.fact.specs.Fact.{factBytes, factAt};
 ghost use Rattle.fact.specs.Certificate as definition;
-ghost use Rattle.schedule.specs.Schedule.{registerList, Ordered};
-ghost use Rattle.certificate.specs.Staging.{Listed};
-ghost use Rattle.certificate.specs.Promise.{checkCall, buffers, Certifies};
+ghost use Rattle.schedule.specs.Schedule.{registerList, Listed, Ordered};
+ghost use Rattle.schedule.specs.Call.{buffers};
+ghost use Rattle.certificate.specs.Promise.{Certifies};
 use crate::pass::settle;
 use crate::pass::write_initial;
 use crate::round::run_rounds;
-use circuit::checks::check_length;
-use circuit::checks::check_output;
-use circuit::checks::check_records;
-use circuit::checks::check_scratch;
+use circuit::checks::check_call;
 use circuit::refusal::Check;
 use circuit::refusal::Ground;
 use schedule::Outcome;
@@ -32,26 +29,6 @@ mod round;
 pub enum Certified {
     Accepted(u32),
     Refused(Ground, usize),
-}
-
-// Grounds 1 to 10.
-fn check_call(t: &[u8], output: usize, scratch: usize) -> Check
-    ensures { λ r. ⌜ r ≡ checkCall (now (t .entry)) output scratch ⌝ }
-{
-    let whole = check_length(t.len());
-    let Check::Passed = whole else {
-        return whole;
-    };
-    let n = t.len() / 16;
-    let certificate = check_output(output, n * 8);
-    let Check::Passed = certificate else {
-        return certificate;
-    };
-    let room = check_scratch(scratch, n * 4);
-    let Check::Passed = room else {
-        return room;
-    };
-    check_records(t, n)
 }
 
 // The certificate of a table whose order stands in the scratch. How many rounds it took.
@@ -81,13 +58,13 @@ fn certify_ordered(
     rounds
 }
 
-// The call on a table of n records that meets none of grounds 1 to 10.
-fn certify_checked(t: &[u8], n: usize, cells: &mut [u8], scratch: &mut [u16]) -> Certified
-    requires { ⌜ n ≡ length (now t) / 16 ⌝ }
-    requires { ⌜ checkCall (now t) (length (now cells)) (length (now scratch)) ≡ Passed ⌝ }
+// The call on a table that meets none of grounds 1 to 10.
+fn certify_checked(t: &[u8], cells: &mut [u8], scratch: &mut [u16]) -> Certified
+    requires { ⌜ checkCall (now t) (length (now cells)) 8 (length (now scratch)) 4 ≡ Passed ⌝ }
     ensures { λ r. ⌜ Certifies
         (buffers (now (t .entry)) (now (cells .entry)) (now (scratch .entry)) (now (cells .exit)) (now (scratch .exit))) r ⌝ }
 {
+    let n = t.len() / 16;
     let outcome = schedule(t, n, n * 4, scratch);
     match outcome {
         Outcome::Loop(size) => Certified::Refused(Ground::Loop, size),
@@ -102,9 +79,9 @@ pub fn certify(table: &[u8], certificate: &mut [u8], scratch: &mut [u16]) -> Cer
     ensures { λ r. ⌜ Certifies
         (buffers (now (table .entry)) (now (certificate .entry)) (now (scratch .entry)) (now (certificate .exit)) (now (scratch .exit))) r ⌝ }
 {
-    let check = check_call(table, certificate.len(), scratch.len());
+    let check = check_call(table, certificate.len(), 8, scratch.len(), 4);
     match check {
         Check::Refused(ground, place) => Certified::Refused(ground, place),
-        Check::Passed => certify_checked(table, table.len() / 16, certificate, scratch),
+        Check::Passed => certify_checked(table, certificate, scratch),
     }
 }

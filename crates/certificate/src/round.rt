@@ -11,10 +11,11 @@ ghost use Rattle.circuit.specs.Checks.{checkRecords};
 ghost use Rattle.fact.specs.Fact as facts;
 ghost use Rattle.fact.specs.Rule.{rule};
 ghost use Rattle.fact.specs.Certificate.{initialStore, rounds, certificate};
-ghost use Rattle.schedule.specs.Schedule.{registerList};
+ghost use Rattle.schedule.specs.Schedule.{registerList, Listed};
+ghost use Rattle.schedule.specs.Scratch.{KeptOutside};
 ghost use Rattle.certificate.specs.Cells.{storeOf, Written};
 ghost use Rattle.certificate.specs.Ready.{Ready};
-ghost use Rattle.certificate.specs.Staging.{Listed, StagedTo, KeptAround, staysAt, stagedFact};
+ghost use Rattle.certificate.specs.Staging.{StagedTo, staysAt, stagedFact};
 use crate::pass::rule_fact;
 use crate::pass::settle;
 use circuit::number::wide;
@@ -72,7 +73,7 @@ pub fn stage(
     requires { ⌜ registers ≡ length (registerList (circuit (now t) n)) ⌝ }
     requires { ⌜ checkRecords (now t) n ≡ Passed ⌝ }
     requires { ⌜ Listed (circuit (now t) n) (now scratch) first ⌝ }
-    ensures { λ _. ⌜ KeptAround n (now (scratch .entry)) (now (scratch .exit)) ⌝ }
+    ensures { λ _. ⌜ KeptOutside n (n + n) (now (scratch .entry)) (now (scratch .exit)) ⌝ }
     ensures { λ _. ⌜ StagedTo (circuit (now (t .entry)) n) (storeOf (now (cells .entry)) n) (now (scratch .exit)) n registers ⌝ }
     ensures { λ r. ⌜ r ≡ not (allBelow (staysAt (circuit (now (t .entry)) n) (storeOf (now (cells .entry)) n)) registers) ⌝ }
 {
@@ -132,7 +133,7 @@ pub fn run_rounds(
 ) -> u32
     requires { ⌜ Ready (now t) n (now scratch) (now cells) wires registers ⌝ }
     requires { ⌜ ((v : ℕ) → v < n → storeOf (now cells) n v ≡ initialStore (circuit (now t) n) v) ⌝ }
-    ensures { λ _. ⌜ KeptAround n (now (scratch .entry)) (now (scratch .exit)) ⌝ }
+    ensures { λ _. ⌜ KeptOutside n (n + n) (now (scratch .entry)) (now (scratch .exit)) ⌝ }
     ensures { λ _. ⌜ Written n (now (cells .entry)) (now (cells .exit)) ⌝ }
     ensures { λ _. ⌜ ((v : ℕ) → v < n → storeOf (now (cells .exit)) n v ≡ certificate (circuit (now (t .entry)) n) v) ⌝ }
     ensures { λ r. ⌜ r ≡ rounds (circuit (now (t .entry)) n) ⌝ }

@@ -2,8 +2,9 @@
 -- Assumes nothing.
 use mathlib.Core.Bool.{Bool, true, false, not}
 use mathlib.Core.List.{List}
-use Prim.Native.Nat.{ℕ, zero, suc, _+_, _*_, _%_}
+use Prim.Native.Nat.{ℕ, zero, suc, _+_, _*_, _/_, _%_}
 use lib.Dec.{eqb, ltb}
+use lib.ListN.{length}
 use Rattle.circuit.specs.declared.refusal.Ground.the-variants.{TableTooLong, TableNotWhole, OutputShort, ScratchShort}
 use Rattle.circuit.specs.declared.refusal.Check.{Check}
 use Rattle.circuit.specs.declared.refusal.Check.the-variants as check
@@ -44,3 +45,12 @@ checkRecordsFrom t n (suc count) i =
 unfoldable pub checkRecords : List ℕ → ℕ → Check
 unfolding checkRecordsFrom
 checkRecords t n = checkRecordsFrom t n n 0
+
+-- grounds 1 to 10 of a call on a table: what is lent of its output, of which `each` is asked a record, and of its
+-- scratch, of which `room` is asked a record
+abbrev pub checkCall : List ℕ → ℕ → ℕ → ℕ → ℕ → Check
+checkCall t output each scratch room =
+    checkLength (length t)
+    then checkOutput output (length t / 16 * each)
+    then checkScratch scratch (length t / 16 * room)
+    then checkRecords t (length t / 16)

@@ -2,7 +2,7 @@
 ghost use mathlib.Core.Path.{_≡_};
 ghost use Prim.Native.Nat.{_*_, _≤_};
 ghost use lib.ListN.{length};
-ghost use Rattle.circuit.specs.Checks.{checkLength, checkOutput, checkScratch, atRecord, checkRecords};
+ghost use Rattle.circuit.specs.Checks.{checkLength, checkOutput, checkScratch, atRecord, checkRecords, checkCall};
 use crate::record::ReadRecord;
 use crate::record::fields_at;
 use crate::record::read_record;
@@ -66,4 +66,26 @@ pub fn check_records(t: &[u8], n: usize) -> Check
         i += 1;
     }
     Check::Passed
+}
+
+// Grounds 1 to 10 of a call on a table: what is lent of its output, of which `each` is asked a record, and of its
+// scratch, of which `room` is asked a record.
+pub fn check_call(t: &[u8], output: usize, each: usize, scratch: usize, room: usize) -> Check
+    requires { ⌜ (each ≤ 256) × (room ≤ 256) ⌝ }
+    ensures { λ r. ⌜ r ≡ checkCall (now (t .entry)) output each scratch room ⌝ }
+{
+    let whole = check_length(t.len());
+    let Check::Passed = whole else {
+        return whole;
+    };
+    let n = t.len() / 16;
+    let written = check_output(output, n * each);
+    let Check::Passed = written else {
+        return written;
+    };
+    let worked = check_scratch(scratch, n * room);
+    let Check::Passed = worked else {
+        return worked;
+    };
+    check_records(t, n)
 }

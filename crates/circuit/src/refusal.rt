@@ -1,4 +1,7 @@
-// The grounds for turning work down, in checking order, and what a check of some of them finds.
+// The grounds for turning work down, in checking order, their numbers, and what a check of some of them finds.
+ghost use mathlib.Core.Path.{_≡_};
+ghost use Rattle.circuit.specs.Refusal.{groundNumber};
+
 pub enum Ground {
     TableTooLong,
     TableNotWhole,
@@ -23,4 +26,29 @@ pub enum Ground {
 pub enum Check {
     Passed,
     Refused(Ground, usize),
+}
+
+// Document 01's number of a ground.
+pub fn ground_number(ground: Ground) -> u64
+    ensures { λ r. ⌜ r ≡ groundNumber ground ⌝ }
+{
+    match ground {
+        Ground::TableTooLong => 1,
+        Ground::TableNotWhole => 2,
+        Ground::OutputShort => 3,
+        Ground::ScratchShort => 4,
+        Ground::UnknownKind => 5,
+        Ground::BadWidth => 6,
+        Ground::UnknownCode => 7,
+        Ground::UnusedNotZero => 8,
+        Ground::NoSuchVariable => 9,
+        Ground::ValueTooWide => 10,
+        Ground::Loop => 11,
+        Ground::StimuliNotWhole => 12,
+        Ground::TooManyStimuli => 13,
+        Ground::BadStimulus => 14,
+        Ground::NotAnInput => 15,
+        Ground::PokeTooWide => 16,
+        Ground::FixedInput => 17,
+    }
 }

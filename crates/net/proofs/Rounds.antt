@@ -6,6 +6,7 @@ use mathlib.Core.Path.{_≡_, refl, sym, ap, _∙_, subst}
 use mathlib.Core.Bool.{Bool, true, false, not}
 use Prim.Native.Nat.{ℕ, zero, suc, _+_, _≤_, _<_, zero-le}
 use native.Mathlib.Nat.{not-suc-le-zero, le-refl, le-of-eq}
+use native.Mathlib.Decide.{decLt}
 use native.Mathlib.Omega.{arith}
 use lib.Dec.{T}
 use Rattle.net.specs.Tests.{allBelow}
@@ -314,3 +315,18 @@ module _ {A : Type 0} {g : Graph} {le : A → A → Type 0} {f : (ℕ → A) →
     -- A fixed store is closed.
     pub fixed-closed : (s : ℕ → A) → Fixed g f s → Closed g f le s
     fixed-closed s fixed v h = subst (le (f s v)) (sym (fixed v h)) (M .reflexive (f s v))
+
+-- ---- at most one number counts the rounds
+
+pub counts-unique : {A : Type 0} (g : Graph) (f : (ℕ → A) → ℕ → A) (s : ℕ → A) (j k : ℕ) → Counts g f s j
+    → Counts g f s k → j ≡ k
+counts-unique g f s j k p q =
+    elim (decLt j k) [
+      | yes l ↦ absurd (never p q l)
+      | no l ↦ elim (decLt k j) [ yes h ↦ absurd (never q p h) | no h ↦ omega arith ]
+    ]
+  where
+    never : {i h : ℕ} → Counts g f s i → Counts g f s h → i < h → ⊥
+    never {i} stops changes l =
+        let (v, below, is-register, changed) = changes .before i l in
+        changed (stops .stops v below is-register)

@@ -130,3 +130,23 @@ module _ {A : Type 0} {g : Graph} (r : Ranked g) (f : (ℕ → A) → ℕ → A)
       settled-unique t (settle g f s) ht (settle-settled s)
       (λ v h e. a v h e ∙ sym (settle-input g f s v e))
       (λ v h e. b v h e ∙ sym (settle-register g f s v e))
+
+-- ---- stores that agree on the net's variables
+
+abbrev pub Agree : {A : Type 0} → Graph → (ℕ → A) → (ℕ → A) → Type 0
+Agree g s t = (v : ℕ) → v < g .size → s v ≡ t v
+
+pub settle-agree : {A : Type 0} {g : Graph} → Ranked g → (f : (ℕ → A) → ℕ → A) → Local g f → (s t : ℕ → A) → Agree g s t
+    → Agree g (settle g f s) (settle g f t)
+settle-agree {g = g} r f loc s t h =
+    settle-unique r f loc t (settle g f s) (settle-settled r f loc s)
+    (λ v below e. settle-input g f s v e ∙ h v below)
+    (λ v below e. settle-register g f s v e ∙ h v below)
+
+pub step-agree : {A : Type 0} (g : Graph) (f : (ℕ → A) → ℕ → A) (s t : ℕ → A) → Agree g s t → Agree g (f s) (f t)
+    → Agree g (step g f s) (step g f t)
+step-agree g f s t h k v below =
+    by-role (g .role v)
+    (λ e. step-input g f s v e ∙ h v below ∙ sym (step-input g f t v e))
+    (λ e. step-wire g f s v e ∙ h v below ∙ sym (step-wire g f t v e))
+    (λ e. step-register g f s v e ∙ k v below ∙ sym (step-register g f t v e))

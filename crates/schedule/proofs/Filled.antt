@@ -2,14 +2,14 @@
 -- rest of a part.
 -- Assumes nothing.
 use mathlib.Core.Path.{_≡_, refl, sym, ap, _∙_}
-use mathlib.Core.List.{List, _++_}
+use mathlib.Core.List.{List, [], _++_}
 use Prim.Native.Nat.{ℕ, _+_, _-_, _≤_, _<_}
 use native.Mathlib.Nat.{not-suc-le-zero}
 use native.Mathlib.Omega.{arith}
 use lib.ListN.{length, getD, set, drop, replicate, length-append, length-drop, length-set, length-replicate}
 use lib.ListN.{getD-replicate, List·getD-append}
 use lib.Seq.{getD-set-same, getD-set-other, getD-append-add, getD-drop, ext-getD}
-use Rattle.schedule.specs.Scratch.{Kept, Filled}
+use Rattle.schedule.specs.Scratch.{Kept, KeptOutside, Filled}
 use Rattle.schedule.proofs.Cases.{by-same, by-le}
 
 pub kept-trans : {m : ℕ} {a b c : List ℕ} → Kept m a b → Kept m b c → Kept m a c
@@ -17,6 +17,28 @@ kept-trans p q = record { long = q .long ∙ p .long; beyond = λ i l. q .beyond
 
 pub kept-none : (m : ℕ) (a : List ℕ) → Kept m a a
 kept-none m a = record { long = refl; beyond = λ i l. refl }
+
+pub outside-trans : {from to : ℕ} {a b c : List ℕ} → KeptOutside from to a b → KeptOutside from to b c
+    → KeptOutside from to a c
+outside-trans p q =
+    record {
+      long = q .long ∙ p .long;
+      before = λ i l. q .before i l ∙ p .before i l;
+      beyond = λ i l. q .beyond i l ∙ p .beyond i l;
+    }
+
+pub outside-none : (from to : ℕ) (a : List ℕ) → KeptOutside from to a a
+outside-none from to a = record { long = refl; before = λ i l. refl; beyond = λ i l. refl }
+
+-- one number more inside
+pub outside-set : {from to : ℕ} {a b : List ℕ} (j x : ℕ) → from ≤ j → j < to → KeptOutside from to a b
+    → KeptOutside from to a (set b j x)
+outside-set {b = b} j x low high p =
+    record {
+      long = length-set b j x ∙ p .long;
+      before = λ i l. getD-set-other b j i x 0 (λ e. omega arith) ∙ p .before i l;
+      beyond = λ i l. getD-set-other b j i x 0 (λ e. omega arith) ∙ p .beyond i l;
+    }
 
 pub filled-kept : (m : ℕ) {from count : ℕ} {f : ℕ → ℕ} {a b : List ℕ} → from + count ≤ m → Filled from count f a b
     → Kept m a b
@@ -88,3 +110,14 @@ module _ (part size : ℕ) (row entry exit : List ℕ) (row-length : length row 
       (λ k. past i k ∙ sym (rest-at i h ∙ past-at i k))
       (λ k. zeros i h k ∙ sym (rest-at i h ∙ zero-at (i - size) (omega arith))))
       (λ h. front i h ∙ sym (List·getD-append row (clear ++ drop part entry) 0 i (omega arith))))
+
+-- zeros over a part in which all that was written lies
+pub part-cleared : (from to part : ℕ) (entry scratch exit : List ℕ) → KeptOutside from to entry scratch → to ≤ part
+    → part ≤ length entry → Filled 0 (part - 0) (λ _. 0) scratch exit → exit ≡ replicate part 0 ++ drop part entry
+part-cleared from to part entry scratch exit kept h lent filled =
+    let whole : part - 0 ≡ part = omega arith in
+    in-part part 0 [] entry exit refl (omega arith) lent (filled .long ∙ kept .long)
+    (λ i l. absurd (not-suc-le-zero l))
+    (λ i _ l. filled-zero 0 part scratch exit filled i (omega arith) l)
+    (λ i l. filled .beyond i (omega arith) ∙ kept .beyond i (omega arith))
+    ∙ ap (λ (k : ℕ). replicate k 0 ++ drop part entry) whole

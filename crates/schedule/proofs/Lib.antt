@@ -10,3 +10,6 @@ pub mod Steps
 pub mod Outcomes
 pub mod Orders
 pub mod Along
+pub mod Standing
+pub mod Together
+pub mod Calls

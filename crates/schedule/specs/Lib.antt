@@ -1,3 +1,4 @@
 pub mod Schedule
 pub mod Scratch
 pub mod Walk
+pub mod Call

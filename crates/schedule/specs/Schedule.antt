@@ -35,6 +35,10 @@ unfoldable pub registerList : Circuit → List ℕ
 unfolding registersFrom
 registerList c = registersFrom c (length c) 0
 
+-- the registers stand in the scratch from a place on
+abbrev pub Listed : Circuit → List ℕ → ℕ → Type 0
+Listed c scratch first = (j : ℕ) → j < length (registerList c) → getD scratch (first + j) 0 ≡ getD (registerList c) j 0
+
 -- an order in the scratch: the wires, then the registers, then zeros up to the end of the part; what lies past the
 -- part is as it was
 pub record IsOrder (c : Circuit) (part : ℕ) (entry exit : List ℕ) (wires registers : ℕ) : Type 0 where

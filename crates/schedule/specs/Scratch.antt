@@ -13,6 +13,12 @@ pub record Kept (m : ℕ) (entry exit : List ℕ) : Type 0 where
   pub long : length exit ≡ length entry
   pub beyond : (i : ℕ) → m ≤ i → getD exit i 0 ≡ getD entry i 0
 
+-- what lies before one place and from another on is as it was
+pub record KeptOutside (from to : ℕ) (entry exit : List ℕ) : Type 0 where
+  pub long : length exit ≡ length entry
+  pub before : (i : ℕ) → i < from → getD exit i 0 ≡ getD entry i 0
+  pub beyond : (i : ℕ) → to ≤ i → getD exit i 0 ≡ getD entry i 0
+
 -- the `count` numbers from a place on are those of f, the rest is as it was
 pub record Filled (from count : ℕ) (f : ℕ → ℕ) (entry exit : List ℕ) : Type 0 where
   pub long : length exit ≡ length entry

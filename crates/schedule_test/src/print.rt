@@ -1,39 +1,12 @@
 // The lines: a refusal with its number and place, an order or a loop with its counts and a checksum.
-ghost use mathlib.Core.Path.{_≡_};
 ghost use Prim.Native.Nat.{_≤_};
 ghost use lib.ListN.{length};
-ghost use Rattle.circuit.specs.Refusal.{groundNumber};
 ghost use Rattle.schedule_test.specs.Shown.{shown};
 use circuit::number::wide;
 use circuit::refusal::Check;
-use circuit::refusal::Ground;
+use circuit::refusal::ground_number;
 use libc::STDOUT_FILENO;
 use schedule::Outcome;
-
-// Document 01's number of a ground.
-fn ground_number(ground: Ground) -> u64
-    ensures { λ r. ⌜ r ≡ groundNumber ground ⌝ }
-{
-    match ground {
-        Ground::TableTooLong => 1,
-        Ground::TableNotWhole => 2,
-        Ground::OutputShort => 3,
-        Ground::ScratchShort => 4,
-        Ground::UnknownKind => 5,
-        Ground::BadWidth => 6,
-        Ground::UnknownCode => 7,
-        Ground::UnusedNotZero => 8,
-        Ground::NoSuchVariable => 9,
-        Ground::ValueTooWide => 10,
-        Ground::Loop => 11,
-        Ground::StimuliNotWhole => 12,
-        Ground::TooManyStimuli => 13,
-        Ground::BadStimulus => 14,
-        Ground::NotAnInput => 15,
-        Ground::PokeTooWide => 16,
-        Ground::FixedInput => 17,
-    }
-}
 
 // A checksum over the first numbers of the scratch, in which their order counts.
 fn checksum(s: &[u16], count: usize) -> usize

@@ -17,14 +17,14 @@ enum-told c = search needs
 
 certify-checked-requires : tie.Need-certify-checked-requires
 certify-checked-requires c κs =
-    (refl, sym (c .before .before .before .before .check-call .ensures) ∙ c .before .before .enum-told .given .1)
+    sym (c .before .before .before .before .check-call .ensures) ∙ c .before .before .enum-told .given .1
 
 returns : tie.Need-returns
 returns c =
     inl (record {
       first = sym
           (c .before .before .before .check-call .ensures) ∙ c .before .check .given .1;
-      certificate = refl;
+      output = refl;
       scratch = refl;
     })
 

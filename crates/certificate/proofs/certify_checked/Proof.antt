@@ -1,15 +1,16 @@
 -- An order gives the certificate, a loop is shown.
 -- Assumes nothing.
-use mathlib.Core.Path.{_≡_, refl, sym, subst}
+use mathlib.Core.Path.{refl, sym}
 use mathlib.Core.Logic.{inr}
-use Prim.Native.Nat.{ℕ, _+_, _*_, _≤_}
+use Prim.Native.Nat.{_+_, _*_, _/_, _≤_}
 use native.Mathlib.Omega.{arith}
 use lib.ListN.{length}
 use Rattle.circuit.specs.Circuit.{circuit}
 use Rattle.circuit.proofs.Tables.{circuit-length}
 use Rattle.schedule.specs.Schedule.{IsOrder, IsLoop}
-use Rattle.certificate.specs.Promise.{buffers, Certificate, LoopShown}
-use Rattle.certificate.proofs.Promise.{call-fits, order-taken, order-listed, order-room, accepted, looped}
+use Rattle.schedule.specs.Call.{buffers}
+use Rattle.schedule.proofs.Standing.{order-taken, order-listed, order-room, loop-shown}
+use Rattle.certificate.proofs.Promise.{fits, accepted}
 use borrow.Author.Needs.{needs}
 use Rattle.certificate.proofs.certify_checked.Statement.{statement}
 use Rattle.certificate.proofs.certify_checked.Tie as tie
@@ -20,9 +21,9 @@ mul-schedule c = search needs
 schedule-requires : tie.Need-schedule-requires
 schedule-requires c κs =
     let x = c .before .before .before .before .args in
-    let p = c .before .before .before .before .pre in
-    let f = call-fits (x .t .now) (length (x .cells .now)) (length (x .scratch .now)) (x .n) (p .0) (p .1) in
-    ((f .small, f .table), (f .valid, (omega arith, f .room)))
+    let ok = c .before .before .before .before .pre in
+    let f = fits (x .t .now) (x .cells .now) (x .scratch .now) ok in
+    ((f .small, f .table), (f .valid, (omega arith, f .worked)))
 
 enum-known-outcome : tie.Need-enum-known-outcome
 enum-known-outcome c = search needs
@@ -33,15 +34,15 @@ enum-known-outcome-2 c = search needs
 certify-ordered-requires : tie.Need-certify-ordered-requires
 certify-ordered-requires c κs =
     let x = c .before .before .before .before .before .before .before .before .before .before .before .before .args in
-    let p = c .before .before .before .before .before .before .before .before .before .before .before .before .pre in
-    let f = call-fits (x .t .now) (length (x .cells .now)) (length (x .scratch .now)) (x .n) (p .0) (p .1) in
-    let o : IsOrder (circuit (x .t .now) (x .n)) (x .n * 4) (x .scratch .now)
-    (c .before .before .before .before .before .before .before .schedule .last .1 .1 .1 .0)
-    (c .before .before .before .outcome2 .given .0 .0) (c .before .before .before .outcome2 .given .0 .1 .0) =
-    rw (c .before .before .before .outcome2 .given .1) at
-    (c .before .before .before .before .before .before .before .schedule .ensures) in
-    let few : c .before .before .before .outcome2 .given .0 .0 + c .before .before .before .outcome2 .given .0 .1 .0 ≤ x .n = omega (arith, o .fits, circuit-length (x .t .now) (x .n)) in (
-      (f .table, f .small, f .output, order-room o (omega arith)),
+    let ok = c .before .before .before .before .before .before .before .before .before .before .before .before .pre in
+    let call = c .before .before .before .before .before .before .before .schedule in
+    let told = c .before .before .before .outcome2 .given in
+    let n = length (x .t .now) / 16 in
+    let f = fits (x .t .now) (x .cells .now) (x .scratch .now) ok in
+    let o : IsOrder (circuit (x .t .now) n) (n * 4) (x .scratch .now) (call .last .1 .1 .1 .0) (told .0 .0)
+    (told .0 .1 .0) = rw (told .1) at (call .ensures) in
+    let few : told .0 .0 + told .0 .1 .0 ≤ n = omega (arith, o .fits, circuit-length (x .t .now) n) in (
+      (f .table, f .small, f .written, order-room o (omega arith)),
       ((few, sym (o .registers-length)), (f .valid, (order-taken o (omega arith), order-listed o (omega arith)))),
     )
 
@@ -51,18 +52,17 @@ same-length c = search needs
 returns : tie.Need-returns
 returns c =
     let x = c .before .before .before .before .before .before .before .before .before .before .args in
-    let p = c .before .before .before .before .before .before .before .before .before .before .pre in
-    let f = call-fits (x .t .now) (length (x .cells .now)) (length (x .scratch .now)) (x .n) (p .0) (p .1) in
-    let l : IsLoop (circuit (x .t .now) (x .n)) (x .n * 4) (x .scratch .now)
-    (c .before .before .before .before .before .schedule .last .1 .1 .1 .0) (c .before .outcome .given .0 .0) =
-    rw (c .before .outcome .given .1) at (c .before .before .before .before .before .schedule .ensures) in
+    let ok = c .before .before .before .before .before .before .before .before .before .before .pre in
+    let call = c .before .before .before .before .before .schedule in
+    let told = c .before .outcome .given in
+    let n = length (x .t .now) / 16 in
+    let l : IsLoop (circuit (x .t .now) n) (n * 4) (x .scratch .now) (call .last .1 .1 .1 .0) (told .0 .0) =
+    rw (told .1) at (call .ensures) in
     inr (
       refl,
-      subst (λ (k : ℕ). LoopShown k
-          (buffers (x .t .now) (x .cells .now) (x .scratch .now) (x .cells .now)
-          (c .before .before .before .before .before .schedule .last .1 .1 .1 .0)) (c .before .outcome .given .0 .0))
-          (p .0) (looped (x .t .now) (x .cells .now) (x .scratch .now) (x .n) (p .1) f
-          (c .before .before .before .before .before .schedule .last .1 .1 .1 .0) (c .before .outcome .given .0 .0) l),
+      loop-shown 8 4
+          (buffers (x .t .now) (x .cells .now) (x .scratch .now) (x .cells .now) (call .last .1 .1 .1 .0)) (told .0 .0)
+          ok l refl,
     )
 
 same-length-2 : tie.Need-same-length-2
@@ -73,22 +73,16 @@ same-length-3 c = search needs
 
 returns-2 : tie.Need-returns-2
 returns-2 c =
-    let x =
-    c .before .before .before .before .before .before .before .before .before .before .before .before .before .before .before .before .before .args in
-    let p =
-    c .before .before .before .before .before .before .before .before .before .before .before .before .before .before .before .before .before .pre in
-    let f = call-fits (x .t .now) (length (x .cells .now)) (length (x .scratch .now)) (x .n) (p .0) (p .1) in
-    let o : IsOrder (circuit (x .t .now) (x .n)) (x .n * 4) (x .scratch .now)
-    (c .before .before .before .before .before .before .before .before .before .before .before .before .schedule .last .1 .1 .1 .0) (c .before .before .before .before .before .before .before .before .outcome2 .given .0 .0) (c .before .before .before .before .before .before .before .before .outcome2 .given .0 .1 .0) =
-    rw (c .before .before .before .before .before .before .before .before .outcome2 .given .1) at
-    (c .before .before .before .before .before .before .before .before .before .before .before .before .schedule .ensures) in
+    let x = c .before .before .before .before .before .before .before .before .before .before .before .before .before .before .before .before .before .args in
+    let ok = c .before .before .before .before .before .before .before .before .before .before .before .before .before .before .before .before .before .pre in
+    let call = c .before .before .before .before .before .before .before .before .before .before .before .before .schedule in
+    let told = c .before .before .before .before .before .before .before .before .outcome2 .given in
+    let n = length (x .t .now) / 16 in
+    let o : IsOrder (circuit (x .t .now) n) (n * 4) (x .scratch .now) (call .last .1 .1 .1 .0) (told .0 .0)
+    (told .0 .1 .0) = rw (told .1) at (call .ensures) in
     let d = c .before .before .before .before .certify-ordered in
-    subst (λ (k : ℕ). Certificate k
-    (buffers (x .t .now) (x .cells .now) (x .scratch .now) (d .last .1 .1 .1 .1 .1 .0) (d .last .1 .1 .0)) (d .result))
-    (p .0)
-    (accepted (x .t .now) (x .cells .now) (x .scratch .now) (x .n) (p .1) f (d .last .1 .1 .1 .1 .1 .0)
-    (d .last .1 .1 .0) (d .result) o
-    (d .ensures .0) (d .ensures .1 .0) (d .ensures .1 .1 .0) (d .ensures .1 .1 .1))
+    accepted (x .t .now) (x .cells .now) (x .scratch .now) ok (d .last .1 .1 .1 .1 .1 .0) (d .last .1 .1 .0) (d .result)
+    o (d .ensures .0) (d .ensures .1 .0) (d .ensures .1 .1 .0) (d .ensures .1 .1 .1)
 
 pub certify-checked-spec : {M : Type 1} → statement M
 certify-checked-spec =

@@ -1,14 +1,15 @@
 -- The facts before any round, the wires along their order, the rounds, and the scratch cleared.
 -- Assumes nothing.
 use mathlib.Core.Path.{_∙_}
-use Prim.Native.Nat.{_*_}
+use Prim.Native.Nat.{_+_, _*_}
 use native.Mathlib.Omega.{arith}
 use Rattle.circuit.specs.Circuit.{circuit}
 use Rattle.circuit.proofs.Tables.{circuit-inside}
+use Rattle.schedule.proofs.Filled.{part-cleared}
 use Rattle.schedule.proofs.Orders.{ordered-no-loop}
 use Rattle.certificate.proofs.Cells.{store-load, written-length, written-self}
 use Rattle.certificate.proofs.Ready.{written-trans}
-use Rattle.certificate.proofs.Finish.{initial-settled, certificate-written, cleared}
+use Rattle.certificate.proofs.Finish.{initial-settled, certificate-written}
 use borrow.Author.Needs.{needs}
 use Rattle.certificate.proofs.certify_ordered.Statement.{statement}
 use Rattle.certificate.proofs.certify_ordered.Tie as tie
@@ -77,7 +78,7 @@ returns c =
         certificate-written (x .t .now) (x .n) (x .cells .now) _
             (written-trans (first .0) (written-trans (settled .0) (run .1 .0))) (run .1 .1 .0),
         (
-          cleared (x .n) (x .n * 4) (x .scratch .now) _ _ (run .0) (omega arith) (p .0 .3)
+          part-cleared (x .n) (x .n + x .n) (x .n * 4) (x .scratch .now) _ _ (run .0) (omega arith) (p .0 .3)
               (c .before .before .clear .ensures),
           λ v h. store-load (c .before .before .before .before .before .before .before .before .run-rounds .last .1 .1 .1 .1 .1 .0) (x .n) v h ∙ run .1 .1 .0 v h,
         ),

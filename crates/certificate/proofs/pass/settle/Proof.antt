@@ -7,7 +7,8 @@ use native.Mathlib.Omega.{arith}
 use borrow.Author.Needs.{needs}
 use lib.ListN.{take}
 use Rattle.certificate.proofs.Cells.{written-length}
-use Rattle.certificate.proofs.Settling.{Passed-wires, none-passed, wire-below, one-passed, all-passed}
+use Rattle.schedule.proofs.Standing.{wire-below}
+use Rattle.certificate.proofs.Settling.{Passed-wires, none-passed, one-passed, all-passed}
 use Rattle.certificate.proofs.pass.settle.Statement.{statement}
 use Rattle.certificate.proofs.pass.settle.Tie as tie
 
@@ -39,9 +40,8 @@ rule-fact-requires c κs =
     let x = c .before .before .before .before .before .before .before .before .args in
     let p = c .before .before .before .before .before .before .before .before .pre in
     let w =
-    wire-below (x .t .now) (x .n) (x .scratch .now) (x .wires) (p .0 .2) (p .1 .1 .0)
-    (c .before .before .before .before .loop .i) (c .before .wide .result)
-    (c .before .before .before .loop-test .taken) (c .before .wide .ensures .0) in (
+    wire-below (x .t .now) (x .n) (x .scratch .now) (x .wires) (c .before .before .before .before .loop .i) (c .before .wide .result)
+    (p .0 .2) (p .1 .1 .0) (c .before .before .before .loop-test .taken) (c .before .wide .ensures .0) in (
       (
         p .0 .0,
         omega (
@@ -59,9 +59,8 @@ store-requires c κs =
     let x = c .before .before .before .before .before .before .before .before .before .before .args in
     let p = c .before .before .before .before .before .before .before .before .before .before .pre in
     let w =
-    wire-below (x .t .now) (x .n) (x .scratch .now) (x .wires) (p .0 .2) (p .1 .1 .0)
-    (c .before .before .before .before .before .before .loop .i) (c .before .before .before .wide .result)
-    (c .before .before .before .before .before .loop-test .taken) (c .before .before .before .wide .ensures .0) in
+    wire-below (x .t .now) (x .n) (x .scratch .now) (x .wires) (c .before .before .before .before .before .before .loop .i) (c .before .before .before .wide .result)
+    (p .0 .2) (p .1 .1 .0) (c .before .before .before .before .before .loop-test .taken) (c .before .before .before .wide .ensures .0) in
     omega (
       arith,
       written-length (c .before .before .before .before .before .before .loop .inv .1 .written)

@@ -12,7 +12,8 @@ use Rattle.fact.specs.Fact.{factByte}
 use Rattle.fact.specs.Rule.{rule}
 use Rattle.certificate.specs.Cells.{storeOf}
 use Rattle.certificate.proofs.Cells.{written-length}
-use Rattle.certificate.proofs.Staging.{kept-same, listed-register, staged-rule, Committed, none-committed, one-committed, all-committed}
+use Rattle.schedule.proofs.Standing.{listed-register}
+use Rattle.certificate.proofs.Staging.{staged-rule, Committed, none-committed, one-committed, all-committed}
 use Rattle.certificate.proofs.round.commit.Statement.{statement}
 use Rattle.certificate.proofs.round.commit.Tie as tie
 
@@ -45,9 +46,9 @@ record-at-requires c κs =
     let j = c .before .before .before .loop .j in
     let inv = c .before .before .before .loop .inv in
     let here =
-    listed-register (x .t .now) (x .n) (x .scratch .now) (x .scratch .now) (x .first) j (c .wide .result)
-    (kept-same (x .n) (x .scratch .now)) (p .1 .1 .1 .0) (omega (arith, c .before .before .loop-test .taken))
-    (omega (arith, c .before .before .loop-test .taken)) (c .wide .ensures .0) in
+    listed-register (x .t .now) (x .n) (x .scratch .now) (x .first) j (c .wide .result)
+    (p .1 .1 .1 .0) (omega (arith, c .before .before .loop-test .taken))
+    (c .wide .ensures .0) in
     omega (arith, here .1)
 
 add-staged-fact : tie.Need-add-staged-fact Inv-loop μ-loop
@@ -69,10 +70,8 @@ store-requires c κs =
     let j = c .before .before .before .before .before .before .before .loop .j in
     let inv = c .before .before .before .before .before .before .before .loop .inv in
     let here =
-    listed-register (x .t .now) (x .n) (x .scratch .now) (x .scratch .now) (x .first) j
-    (c .before .before .before .before .wide .result) (kept-same (x .n) (x .scratch .now)) (p .1 .1 .1 .0)
-    (omega (arith, c .before .before .before .before .before .before .loop-test .taken))
-    (omega (arith, c .before .before .before .before .before .before .loop-test .taken))
+    listed-register (x .t .now) (x .n) (x .scratch .now) (x .first) j (c .before .before .before .before .wide .result)
+    (p .1 .1 .1 .0) (omega (arith, c .before .before .before .before .before .before .loop-test .taken))
     (c .before .before .before .before .wide .ensures .0) in
     omega (arith, here .1, written-length (inv .1 .written) (p .0 .1))
 
@@ -91,11 +90,9 @@ loop-again c =
     let j = c .before .before .before .before .before .before .before .before .before .before .loop .j in
     let inv = c .before .before .before .before .before .before .before .before .before .before .loop .inv in
     let here =
-    listed-register (x .t .now) (x .n) (x .scratch .now) (x .scratch .now) (x .first) j
-    (c .before .before .before .before .before .before .before .wide .result)
-    (kept-same (x .n) (x .scratch .now)) (p .1 .1 .1 .0)
-    (omega (arith, c .before .before .before .before .before .before .before .before .before .loop-test .taken))
-    (omega (arith, c .before .before .before .before .before .before .before .before .before .loop-test .taken)) (c .before .before .before .before .before .before .before .wide .ensures .0) in
+    listed-register (x .t .now) (x .n) (x .scratch .now) (x .first) j (c .before .before .before .before .before .before .before .wide .result)
+    (p .1 .1 .1 .0) (omega (arith, c .before .before .before .before .before .before .before .before .before .loop-test .taken))
+    (c .before .before .before .before .before .before .before .wide .ensures .0) in
     let C = circuit (x .t .now) (x .n) in
     let s = storeOf (x .cells .now) (x .n) in
     let v = c .before .before .before .before .before .before .before .wide .result in

@@ -6,8 +6,8 @@ use native.Mathlib.Omega.{arith}
 use Rattle.circuit.specs.Circuit.{circuit}
 use Rattle.fact.specs.Certificate.{rounds}
 use Rattle.certificate.proofs.Cells.{written-length}
-use Rattle.certificate.proofs.Staging.{kept-same}
-use Rattle.certificate.proofs.Ready.{kept-trans, ready-kept}
+use Rattle.schedule.proofs.Filled.{outside-none, outside-trans}
+use Rattle.certificate.proofs.Ready.{ready-kept}
 use Rattle.certificate.proofs.Running.{Running, run-start, run-next, run-stopped, run-certificate, still-running, rounds-small}
 use Rattle.certificate.proofs.round.run_rounds.Statement.{statement}
 use Rattle.certificate.proofs.round.run_rounds.Tie as tie
@@ -40,7 +40,7 @@ settle-requires c κs =
     c .before .before .before .before .before .before .before .before .before .before .before .before .before .loop .inv .ready in
     let r₁ =
     ready-kept r₀ (c .before .before .before .before .before .before .before .before .before .before .stage .ensures .0) (r₀ .written) in
-    let r = ready-kept r₁ (kept-same _ _) (c .before .before .before .before .commit .ensures .0) in
+    let r = ready-kept r₁ (outside-none _ _ _) (c .before .before .before .before .commit .ensures .0) in
     ((r .table, r .output, omega (arith, r .room, r .fits)), (r .valid, (r .order, r .written)))
 
 add-count : tie.Need-add-count Inv-loop μ-loop
@@ -91,7 +91,7 @@ returns c =
     let inv = c .before .before .before .before .before .before .loop .inv in
     let stage = c .before .before .before .stage .ensures in
     let stops = run-stopped inv _ (stage .1 .1) (c .if1 .taken) in
-    (kept-trans (inv .kept) (stage .0), (inv .written, (run-certificate inv stops, stops)))
+    (outside-trans (inv .kept) (stage .0), (inv .written, (run-certificate inv stops, stops)))
 
 pub run-rounds-spec : {M : Type 1} → statement M
 run-rounds-spec =

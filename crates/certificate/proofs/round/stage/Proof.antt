@@ -13,10 +13,11 @@ use Rattle.fact.specs.declared.Fact.{Fact}
 use Rattle.fact.specs.Fact.{same, factByte}
 use Rattle.fact.specs.Rule.{rule}
 use Rattle.schedule.specs.Schedule.{registerList}
+use Rattle.schedule.proofs.Standing.{listed-register, listed-kept}
 use Rattle.certificate.specs.Cells.{storeOf}
 use Rattle.certificate.specs.Staging.{StagedTo, staysAt}
 use Rattle.certificate.proofs.Cells.{store-load}
-use Rattle.certificate.proofs.Staging.{StagedSo, none-staged, one-staged, changes-more, listed-register}
+use Rattle.certificate.proofs.Staging.{StagedSo, none-staged, one-staged, changes-more}
 use Rattle.certificate.proofs.round.stage.Statement.{statement}
 use Rattle.certificate.proofs.round.stage.Tie as tie
 
@@ -52,8 +53,9 @@ rule-fact-requires c κs =
     let j = c .before .before .before .loop .j in
     let inv = c .before .before .before .loop .inv in
     let here =
-    listed-register (x .t .now) (x .n) (x .scratch .now) (c .before .before .before .loop .scratch) (x .first) j
-    (c .wide .result) (inv .1 .kept) (p .1 .1 .1 .1) (omega (arith, c .before .before .loop-test .taken))
+    listed-register (x .t .now) (x .n) (c .before .before .before .loop .scratch) (x .first) j
+    (c .wide .result)
+    (listed-kept (circuit (x .t .now) (x .n)) (inv .1 .kept) (x .first) (omega arith) (p .1 .1 .1 .1))
     (omega (arith, c .before .before .loop-test .taken)) (c .wide .ensures .0) in
     ((p .0 .0, p .0 .1, here .1), p .1 .1 .1 .0)
 
@@ -79,10 +81,9 @@ load-requires c κs =
     let j = c .before .before .before .before .before .before .loop .j in
     let inv = c .before .before .before .before .before .before .loop .inv in
     let here =
-    listed-register (x .t .now) (x .n) (x .scratch .now)
-    (c .before .before .before .before .before .before .loop .scratch) (x .first) j
-    (c .before .before .before .wide .result) (inv .1 .kept) (p .1 .1 .1 .1)
-    (omega (arith, c .before .before .before .before .before .loop-test .taken))
+    listed-register (x .t .now) (x .n) (c .before .before .before .before .before .before .loop .scratch) (x .first) j
+    (c .before .before .before .wide .result)
+    (listed-kept (circuit (x .t .now) (x .n)) (inv .1 .kept) (x .first) (omega arith) (p .1 .1 .1 .1))
     (omega (arith, c .before .before .before .before .before .loop-test .taken)) (c .before .before .before .wide .ensures .0) in
     omega (arith, here .1)
 
@@ -107,10 +108,9 @@ loop-again c =
     let j = c .before .before .before .before .before .before .before .before .before .loop .j in
     let inv = c .before .before .before .before .before .before .before .before .before .loop .inv in
     let here =
-    listed-register (x .t .now) (x .n) (x .scratch .now)
-    (c .before .before .before .before .before .before .before .before .before .loop .scratch) (x .first) j
-    (c .before .before .before .before .before .before .wide .result) (inv .1 .kept) (p .1 .1 .1 .1)
-    (omega (arith, c .before .before .before .before .before .before .before .before .loop-test .taken))
+    listed-register (x .t .now) (x .n) (c .before .before .before .before .before .before .before .before .before .loop .scratch) (x .first) j
+    (c .before .before .before .before .before .before .wide .result)
+    (listed-kept (circuit (x .t .now) (x .n)) (inv .1 .kept) (x .first) (omega arith) (p .1 .1 .1 .1))
     (omega (arith, c .before .before .before .before .before .before .before .before .loop-test .taken)) (c .before .before .before .before .before .before .wide .ensures .0) in
     let C = circuit (x .t .now) (x .n) in
     let s = storeOf (x .cells .now) (x .n) in

@@ -1,8 +1,8 @@
 -- Each ground by its own case.
 -- Assumes nothing.
 use borrow.Author.Needs.{needs}
-use Rattle.schedule_test.proofs.print.ground_number.Statement.{statement}
-use Rattle.schedule_test.proofs.print.ground_number.Tie as tie
+use Rattle.circuit.proofs.refusal.ground_number.Statement.{statement}
+use Rattle.circuit.proofs.refusal.ground_number.Tie as tie
 
 enum-told : tie.Need-enum-told
 enum-told c = search needs

@@ -1,10 +1,20 @@
 -- Each check is tried where those before it pass.
 -- Assumes nothing.
 use mathlib.Core.Path.{sym, _∙_}
-use Rattle.certificate.proofs.Finish.{check-stops, check-goes-on}
+use Prim.Native.Nat.{ℕ, _*_, _/_, _^_, _≤_, _<_}
+use native.Mathlib.Nat.{mul-le-mul-left, mul-le-mul-right}
+use native.Mathlib.Omega.{arith}
+use Rattle.circuit.proofs.Passing.{length-most, check-stops, check-goes-on}
 use borrow.Author.Needs.{needs}
-use Rattle.certificate.proofs.check_call.Statement.{statement}
-use Rattle.certificate.proofs.check_call.Tie as tie
+use Rattle.circuit.proofs.checks.check_call.Statement.{statement}
+use Rattle.circuit.proofs.checks.check_call.Tie as tie
+
+few-each : (bytes each : ℕ) → bytes ≤ 65536 → each ≤ 256 → bytes / 16 * each < 2 ^ 64
+few-each bytes each h k =
+    omega (arith, mul-le-mul-right each (div-most bytes h), mul-le-mul-left 4096 k)
+  where
+    div-most : (b : ℕ) → b ≤ 65536 → b / 16 ≤ 4096
+    div-most b l = omega arith
 
 check-length-requires : tie.Need-check-length-requires
 check-length-requires c κs = search needs
@@ -20,7 +30,13 @@ returns c =
     c .enum-told2 .given .1 ∙ check-stops _ _ _ _ _ (c .before .before .check-length .ensures) (c .enum-told2 .given .1)
 
 mul-check-output : tie.Need-mul-check-output
-mul-check-output c = search needs
+mul-check-output c =
+    let b = c .before .before in
+    record {
+      fits =
+          few-each _ _ (length-most _ (sym (b .check-length .ensures) ∙ c .enum-told .given .1))
+          (b .before .before .pre .0);
+    }
 
 check-output-requires : tie.Need-check-output-requires
 check-output-requires c κs = search needs
@@ -39,7 +55,13 @@ returns-2 c =
     (c .before .before .before .enum-told .given .1))
 
 mul-check-scratch : tie.Need-mul-check-scratch
-mul-check-scratch c = search needs
+mul-check-scratch c =
+    let b = c .before .before .before .before .before in
+    record {
+      fits =
+          few-each _ _ (length-most _ (sym (b .check-length .ensures) ∙ c .before .before .before .enum-told .given .1))
+          (b .before .before .pre .1);
+    }
 
 check-scratch-requires : tie.Need-check-scratch-requires
 check-scratch-requires c κs = search needs
