@@ -32,7 +32,7 @@ at-most-one input = zero-le
 at-most-one wire = zero-le
 at-most-one register = le-refl _
 
-registers-few : (c : Circuit) → definition.registers c ≤ length c
+pub registers-few : (c : Circuit) → definition.registers c ≤ length c
 unfolding definition.registers sumRegisters
 registers-few c =
     le-trans

@@ -8,3 +8,4 @@ pub mod Tables
 pub mod Scan
 pub mod Values
 pub mod Stimuli
+pub mod Places

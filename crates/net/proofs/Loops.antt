@@ -51,7 +51,8 @@ distinct : List ℕ → Bool
 distinct [] = true
 distinct (x ∷ xs) = not (member x xs) && distinct xs
 
-member-getD : (l : List ℕ) (i : ℕ) → i < length l → T (member (getD l i 0) l)
+-- what stands at a place of a list stands in it
+pub member-getD : (l : List ℕ) (i : ℕ) → i < length l → T (member (getD l i 0) l)
 unfolding member
 member-getD [] i h = absurd (not-suc-le-zero h)
 member-getD (x ∷ xs) zero h = or-left (eqb x x) (member x xs) (eqb-refl x)

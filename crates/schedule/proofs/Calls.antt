@@ -1,22 +1,20 @@
--- What two calls on equal buffers share: at most one of grounds 1 to 10 is the first that holds.
+-- Refusals on grounds 1 to 11: at most one of 1 to 10 is the first that holds of equal buffers, and their places are
+-- small.
 -- Assumes nothing.
 use mathlib.Core.Path.{_≡_, sym, ap, _∙_}
-use mathlib.Core.List.{List}
-use Prim.Native.Nat.{ℕ}
+use mathlib.Core.List.{List, _++_}
+use Prim.Native.Nat.{ℕ, _-_, _*_, _≤_}
 use native.Mathlib.Omega.{arith}
+use lib.ListN.{length, drop, replicate, length-append, length-drop, length-replicate}
 use Rattle.circuit.specs.declared.refusal.Ground.{Ground}
 use Rattle.circuit.specs.declared.refusal.Check.{Check}
 use Rattle.circuit.specs.declared.refusal.Check.the-variants.{Passed, Refused}
-use Rattle.schedule.specs.Call.{Buffers, buffers, checked, TurnedDown}
+use Rattle.circuit.proofs.Places.{placeOf, call-place}
+use Rattle.schedule.specs.Call.{Buffers, buffers, size, TurnedDown, LoopShown}
 
--- two refusals that are the same have the same ground and place
 abbrev refusal-ground : Ground → Check → Ground
 refusal-ground other Passed = other
 refusal-ground other (Refused g place) = g
-
-abbrev refusal-place : Check → ℕ
-refusal-place Passed = 0
-refusal-place (Refused g place) = place
 
 pub passed-refused : {g : Ground} {place : ℕ} {check : Check} → check ≡ Passed → check ≡ Refused g place → ⊥
 passed-refused p q = let z : _≡_ {A = ℕ} 0 1 = cc in omega arith
@@ -32,7 +30,29 @@ module _ (each room : ℕ) (t output scratch output₁ scratch₁ output₂ scra
       → (g ≡ h) × (i ≡ j) × (output₁ ≡ output₂) × (scratch₁ ≡ scratch₂)
   turned-down-alike g h i j p q = (
     ap (refusal-ground g) (sym (p .first) ∙ q .first),
-    ap refusal-place (sym (p .first) ∙ q .first),
+    ap placeOf (sym (p .first) ∙ q .first),
     p .output ∙ sym (q .output),
     p .scratch ∙ sym (q .scratch),
   )
+
+pub turned-down-place : (each room : ℕ) (b : Buffers) (g : Ground) (place : ℕ) → TurnedDown each room b g place
+    → place ≤ 4096
+turned-down-place each room b g place p =
+    rw (p .first) at (call-place (b .table) (length (b .output)) each (length (b .scratch)) room)
+
+pub loop-place : (each room : ℕ) (b : Buffers) (place : ℕ) → LoopShown each room b place
+    → length (b .scratch-exit) ≡ length (b .scratch) → size b * room ≤ length (b .scratch) → place ≤ size b * room
+loop-place each room b place p long lent =
+    omega (
+      arith,
+      p .row-length,
+      long,
+      ap length (p .scratch),
+      length-append (p .row) (replicate (part - length (p .row)) 0 ++ drop part (b .scratch)),
+      length-append (replicate (part - length (p .row)) 0) (drop part (b .scratch)),
+      length-replicate {A = ℕ} (part - length (p .row)) 0,
+      length-drop part (b .scratch),
+    )
+  where
+    part : ℕ
+    part = size b * room

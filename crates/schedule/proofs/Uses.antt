@@ -4,14 +4,15 @@ use mathlib.Core.Path.{_≡_, refl, sym, ap, _∙_}
 use mathlib.Core.Bool.{true, false}
 use mathlib.Core.List.{List, [], _∷_}
 use Prim.Native.Nat.{ℕ, zero, suc, _+_, _*_, _≤_, _<_}
-use native.Mathlib.Nat.{not-suc-le-zero, le-of-suc-le-suc}
+use native.Mathlib.Nat.{not-suc-le-zero}
 use native.Mathlib.Omega.{arith}
-use lib.Dec.{T, eqb, eqb→eq, eqb-refl}
+use lib.Dec.{T, eqb, eqb→eq}
 use lib.ListN.{length, getD}
 use Rattle.net.specs.Net.{wire, register}
 use Rattle.net.specs.Tests.{member}
 use Rattle.net.specs.Loop.{Uses}
-use Rattle.net.proofs.Bools.{true-false, or-cases, or-left, or-right}
+use Rattle.net.proofs.Bools.{true-false, or-cases}
+use Rattle.net.proofs.Loops.{member-getD}
 use Rattle.net.proofs.Settle.{by-role}
 use Rattle.circuit.specs.declared.record.Record.{Record}
 use Rattle.circuit.specs.declared.record.Record.the-variants.{Input, Constant, Operator, Multiplexer, Register}
@@ -22,13 +23,6 @@ use Rattle.circuit.proofs.Tables.{Inside, circuit-record}
 use Rattle.schedule.specs.Walk.{last, used}
 
 -- ---- members of a list and their places
-
-member-at : (l : List ℕ) (k : ℕ) → k < length l → T (member (getD l k 0) l)
-unfolding member
-member-at [] k h = absurd (not-suc-le-zero h)
-member-at (x ∷ xs) zero h = or-left (eqb x x) (member x xs) (eqb-refl x)
-member-at (x ∷ xs) (suc k) h =
-    or-right (eqb (getD xs k 0) x) (member (getD xs k 0) xs) (member-at xs k (le-of-suc-le-suc h))
 
 member-place : (u : ℕ) (l : List ℕ) → T (member u l) → (k : ℕ) × (k < length l) × (getD l k 0 ≡ u)
 unfolding member
@@ -92,7 +86,7 @@ module _ (c : Circuit) (v : ℕ) where
   pub used-uses : (k : ℕ) → k + 1 < last c v → Uses (graph c) v (used c v k)
   unfolding last used
   used-uses k h =
-      member-at (uses (recordOf c v)) k
+      member-getD (uses (recordOf c v)) k
       (omega (arith, wire-uses (recordOf c v) (record-wire (recordOf c v) (omega arith))))
 
   pub uses-used : (u : ℕ) → role (recordOf c v) ≡ wire → Uses (graph c) v u

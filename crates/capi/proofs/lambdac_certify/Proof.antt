@@ -1,0 +1,35 @@
+-- The certifying call's promise, of the answer that is packed.
+-- Assumes nothing.
+use borrow.Author.Needs.{needs}
+use Rattle.schedule.specs.Call.{buffers}
+use Rattle.capi.proofs.Packed.{certified-low}
+use Rattle.capi.proofs.lambdac_certify.Statement.{statement}
+use Rattle.capi.proofs.lambdac_certify.Tie as tie
+
+certify-requires : tie.Need-certify-requires
+certify-requires c κs = search needs
+
+pack-requires : tie.Need-pack-requires
+pack-requires c κs =
+    let call = c .before .before .before .before .certify in
+    certified-low _ (call .result) (call .ensures) (call .kept .1 .1 .0)
+
+same-length : tie.Need-same-length
+same-length c = search needs
+
+same-length-2 : tie.Need-same-length-2
+same-length-2 c = search needs
+
+returns : tie.Need-returns
+returns c =
+    let call = c .before .before .before .before .before .certify in
+    record {
+      answer = call .result;
+      low = certified-low _ (call .result) (call .ensures) (call .kept .1 .1 .0);
+      is = c .pack .ensures;
+      certifies = call .ensures;
+    }
+
+pub lambdac-certify-spec : {M : Type 1} → statement M
+lambdac-certify-spec =
+    tie.close (tie.spec certify-requires pack-requires same-length same-length-2 returns)

@@ -1,0 +1,26 @@
+/* Certificates over lambda-C tables, as a static library (rt staticlib capi writes target/staticlib/libcapi.a).
+ *
+ * A call reads `table` and writes to the buffers that it is lent; no two of the buffers may overlap. Every input gets an
+ * answer: bad input is refused with a ground and a place, and no output byte is then changed. */
+#ifndef LAMBDAC_H
+#define LAMBDAC_H
+
+#include <stddef.h>
+#include <stdint.h>
+
+#ifdef __cplusplus
+extern "C" {
+#endif
+
+/* Certifies a table of 16-byte records. Asks for 8 bytes of certificate and four 16-bit numbers of scratch a record.
+ * Returns the number of rounds where the table is accepted, else ground * 2^32 + place; every ground is at least 1, so
+ * a number below 2^32 says that the table was accepted. For ground 11 the place is the length of the loop that stands
+ * at the front of the scratch. */
+uint64_t lambdac_certify(const uint8_t *table, size_t table_len, uint8_t *certificate, size_t certificate_len,
+                         uint16_t *scratch, size_t scratch_len);
+
+#ifdef __cplusplus
+}
+#endif
+
+#endif
