@@ -5,8 +5,8 @@
 mod common;
 
 use common::tables::{damage, random_stimuli, random_table, renumbered};
-use common::{bench_longer, bench_on, cases, certify_longer, certify_on, Random};
-use model::{is_loop, read_records, settle, value, InputKind, Record};
+use common::{assert_shows_loop, bench_longer, bench_on, cases, certify_longer, certify_on, Random};
+use model::{read_records, settle, value, InputKind, Record};
 
 fn number(bytes: &[u8]) -> u64 {
     bytes.iter().rev().fold(0, |number, &byte| number * 256 + u64::from(byte))
@@ -119,8 +119,7 @@ fn check_table(table: &[u8], longer: usize) -> u32 {
     }
     for refused in [certified.unwrap_err(), run.unwrap_err()] {
         assert_eq!((refused.ground, refused.place), (11, refused.row.len()));
-        assert!(is_loop(table, &refused.row));
-        assert_eq!(refused.row.first(), refused.row.iter().min());
+        assert_shows_loop(table, &refused.row);
     }
     11
 }

@@ -1,15 +1,25 @@
 //! What the tests share: records and stimuli from their fields, a seeded generator of random numbers, and
 //! the two calls made on buffers whose contents are checked afterwards by document 01's clauses.
-//! Random tables and lists come from `tables`.
+//! Random tables and lists come from `tables`, and tables of one shape from `shapes`; document 01's cases
+//! are in `document_cases`, and further tables in `samples`.
 
 #![allow(dead_code)] // each test file uses a part
 
+pub mod document_cases;
+pub mod samples;
+pub mod shapes;
 pub mod tables;
 
-use model::{bench, certify, Fact, Operator, Refusal};
+use model::{bench, certify, is_loop, Fact, Operator, Refusal};
 
 /// The 16 bytes of a record.
 pub type RecordBytes = [u8; 16];
+
+/// The records of a table.
+pub type Table = Vec<RecordBytes>;
+
+/// The most records that a table can have.
+pub const MOST_RECORDS: u16 = 4096;
 
 /// The 16 bytes of a record from its fields, the bytes that must be 0 left 0.
 pub fn record(kind: u8, width: u8, choice: u8, variables: [u16; 3], n: u32) -> RecordBytes {
@@ -133,9 +143,11 @@ pub struct Refused {
     pub row: Vec<u16>,
 }
 
-/// The certifying call on buffers of these lengths: the count and the facts, or the refusal. What document
-/// 01 says of the buffers is checked.
-pub fn certify_on(table: &[u8], certificate: usize, scratch: usize) -> Result<(u32, Vec<Fact>), Refused> {
+/// What the certifying call answers: the count and the facts, or the refusal.
+pub type Answer = Result<(u32, Vec<Fact>), Refused>;
+
+/// The certifying call on buffers of these lengths. What document 01 says of the buffers is checked.
+pub fn certify_on(table: &[u8], certificate: usize, scratch: usize) -> Answer {
     let before: Vec<u8> = noise(certificate).map(|number| number as u8).collect();
     let scratch_before: Vec<u16> = noise(scratch).collect();
     let (mut after, mut scratch_after) = (before.clone(), scratch_before.clone());
@@ -148,7 +160,7 @@ pub fn certify_on(table: &[u8], certificate: usize, scratch: usize) -> Result<(u
 }
 
 /// The certifying call on buffers as long as asked and so many longer.
-pub fn certify_longer(table: &[u8], longer: usize) -> Result<(u32, Vec<Fact>), Refused> {
+pub fn certify_longer(table: &[u8], longer: usize) -> Answer {
     let n = table.len() / 16;
     certify_on(table, n * 8 + longer, n * 4 + longer)
 }
@@ -177,8 +189,14 @@ fn refused(Refusal { ground, place }: Refusal, row: Vec<u16>) -> Refused {
     Refused { ground, place, row }
 }
 
+/// Asserts that a row is one that ground 11 can show: a loop of the table, from its lowest variable on.
+pub fn assert_shows_loop(table: &[u8], row: &[u16]) {
+    assert!(is_loop(table, row), "{row:?} is no loop");
+    assert_eq!(row.first(), row.iter().min(), "the lowest variable of {row:?} is not the first");
+}
+
 /// What a buffer holds before a call: numbers with no byte 0.
-fn noise(length: usize) -> impl Iterator<Item = u16> {
+pub fn noise(length: usize) -> impl Iterator<Item = u16> {
     (0..length).map(|i| (i as u16).wrapping_mul(40_503) | 0x0101)
 }
 

@@ -1,20 +1,21 @@
 //! Random tables, random lists of stimuli, and damage to both.
 
 use super::{
-    constant, fixed, free, multiplexer, operator, poke_bytes, register, secret, Random, RecordBytes, TICK,
+    constant, fixed, free, multiplexer, operator, poke_bytes, register, secret, Random, RecordBytes, Table,
+    TICK,
 };
 use model::{remainder, InputKind, Operator, Record};
 
 /// How often each kind (input, constant, operator, multiplexer, register) occurs in a random table.
-const MIXTURES: [[usize; 5]; 5] =
+pub(super) const MIXTURES: [[usize; 5]; 5] =
     [[3, 1, 4, 4, 4], [2, 1, 6, 2, 2], [1, 1, 1, 1, 6], [2, 2, 2, 6, 4], [4, 1, 3, 3, 0]];
 
 /// The widths of a random table.
-const WIDTHS: [&[u8]; 4] = [&[1], &[1, 2, 3], &[1, 8, 16], &[1, 2, 7, 8, 31, 32]];
+pub(super) const WIDTHS: [&[u8]; 4] = [&[1], &[1, 2, 3], &[1, 8, 16], &[1, 2, 7, 8, 31, 32]];
 
 /// A random table of n records that meets none of grounds 5 to 10. Without `loops` it has none; with it,
 /// some wires use any variable.
-pub fn random_table(random: &mut Random, n: usize, loops: bool) -> Vec<RecordBytes> {
+pub fn random_table(random: &mut Random, n: usize, loops: bool) -> Table {
     let mixture = random.pick(&MIXTURES);
     let widths = random.pick(&WIDTHS);
     let kinds: Vec<usize> = (0..n).map(|_| random_kind(random, &mixture)).collect();
@@ -36,7 +37,7 @@ pub fn random_table(random: &mut Random, n: usize, loops: bool) -> Vec<RecordByt
 }
 
 /// One of the five kinds, as often as the mixture says.
-fn random_kind(random: &mut Random, mixture: &[usize; 5]) -> usize {
+pub(super) fn random_kind(random: &mut Random, mixture: &[usize; 5]) -> usize {
     let mut left = random.below(mixture.iter().sum());
     let mut kind = 0;
     while left >= mixture[kind] {
@@ -47,7 +48,7 @@ fn random_kind(random: &mut Random, mixture: &[usize; 5]) -> usize {
 }
 
 /// A variable to use: any at all, or one of those before, rather a late one; none where there is none.
-fn random_use(random: &mut Random, before: &[usize], n: usize, any: bool) -> Option<u16> {
+pub(super) fn random_use(random: &mut Random, before: &[usize], n: usize, any: bool) -> Option<u16> {
     if any {
         return Some(random.below(n) as u16);
     }
@@ -56,7 +57,7 @@ fn random_use(random: &mut Random, before: &[usize], n: usize, any: bool) -> Opt
     (!before.is_empty()).then(|| random.pick(&before[from..]) as u16)
 }
 
-fn random_width(random: &mut Random, widths: &[u8]) -> u8 {
+pub(super) fn random_width(random: &mut Random, widths: &[u8]) -> u8 {
     if random.percent(5) {
         return 1 + random.below(32) as u8;
     }
@@ -75,7 +76,12 @@ pub fn random_number(random: &mut Random, w: u32) -> u32 {
 }
 
 /// A record of the kind; a constant where a wire has nothing to use.
-fn random_record(random: &mut Random, kind: usize, w: u8, uses: [Option<u16>; 3]) -> RecordBytes {
+pub(super) fn random_record(
+    random: &mut Random,
+    kind: usize,
+    w: u8,
+    uses: [Option<u16>; 3],
+) -> RecordBytes {
     let n = random_number(random, u32::from(w));
     match (kind, uses) {
         (0, _) => random.pick(&[fixed(w, n), free(w), secret(w)]),
@@ -87,7 +93,7 @@ fn random_record(random: &mut Random, kind: usize, w: u8, uses: [Option<u16>; 3]
 }
 
 /// The table with its records moved: record i goes to place `to[i]`, and variables are renumbered so.
-pub fn renumbered(table: &[RecordBytes], to: &[usize]) -> Vec<RecordBytes> {
+pub fn renumbered(table: &[RecordBytes], to: &[usize]) -> Table {
     let mut moved = vec![[0; 16]; table.len()];
     for (i, bytes) in table.iter().enumerate() {
         let uses = Record::read(bytes, table.len()).unwrap().uses().count();

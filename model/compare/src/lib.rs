@@ -1,0 +1,39 @@
+//! The calls of the C archive, as include/lambdac.h declares them, behind the signatures of the model's.
+
+use model::Refusal;
+
+extern "C" {
+    fn lambdac_certify(
+        table: *const u8,
+        table_len: usize,
+        certificate: *mut u8,
+        certificate_len: usize,
+        scratch: *mut u16,
+        scratch_len: usize,
+    ) -> u64;
+}
+
+/// The archive's certifying call: the count of rounds, or the refusal.
+pub fn certify(table: &[u8], certificate: &mut [u8], scratch: &mut [u16]) -> Result<u32, Refusal> {
+    // SAFETY: each pointer and length are those of one slice, and borrowed slices do not overlap.
+    let answer = unsafe {
+        lambdac_certify(
+            table.as_ptr(),
+            table.len(),
+            certificate.as_mut_ptr(),
+            certificate.len(),
+            scratch.as_mut_ptr(),
+            scratch.len(),
+        )
+    };
+    unpacked(answer)
+}
+
+/// The number of an accepted call; or the refusal, which is packed as ground * 2^32 + place.
+fn unpacked(answer: u64) -> Result<u32, Refusal> {
+    let (ground, low) = ((answer >> 32) as u32, answer as u32);
+    match ground {
+        0 => Ok(low),
+        _ => Err(Refusal { ground, place: low as usize }),
+    }
+}

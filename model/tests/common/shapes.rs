@@ -1,0 +1,116 @@
+//! Random tables of given shapes, without a loop: layers, deep chains of wires, chains of registers, and the
+//! ring of registers that takes the most rounds. Each is made with its uses pointing back, but for some of
+//! a register's, and can then be put in another order.
+
+use super::tables::{
+    random_kind, random_record, random_table, random_use, random_width, renumbered, MIXTURES, WIDTHS,
+};
+use super::{constant, multiplexer, register, secret, Random, RecordBytes, Table};
+use std::ops::Range;
+
+/// The kinds of a chain of wires, of which few are inputs or constants.
+const WIRES: [usize; 5] = [1, 1, 16, 16, 0];
+
+/// The kinds of a chain of registers, with a wire here and there.
+const REGISTERS: [usize; 5] = [0, 0, 1, 1, 10];
+
+/// The fewest records of a ring: three, and one register.
+const LEAST_RING: usize = 4;
+
+/// A random table of n records, or a few more where they are too few, of a random shape and in one of three
+/// orders. With `loops` some have one.
+pub fn random_shape(random: &mut Random, n: usize, loops: bool) -> Table {
+    let mut table = match random.below(5) {
+        0 => random_table(random, n, loops),
+        1 => layers(random, n),
+        2 => chain(random, n),
+        3 => register_chain(random, n),
+        _ => register_ring(random, n),
+    };
+    if loops && random.percent(10) {
+        rewire(random, &mut table);
+    }
+    in_some_order(random, &table)
+}
+
+/// Layers of a random size: a record uses those of the layer before.
+pub fn layers(random: &mut Random, n: usize) -> Table {
+    let (mixture, size) = (random.pick(&MIXTURES), 1 + random.below(n));
+    shaped(random, n, &mixture, |i| {
+        let layer = i / size * size;
+        layer.saturating_sub(size)..layer
+    })
+}
+
+/// A deep chain of wires: each uses those shortly before it.
+pub fn chain(random: &mut Random, n: usize) -> Table {
+    let reach = 1 + random.below(4);
+    shaped(random, n, &WIRES, |i| i.saturating_sub(reach)..i)
+}
+
+/// A chain of registers, most with power-on 0, so that a fact takes a round for each of them to pass.
+pub fn register_chain(random: &mut Random, n: usize) -> Table {
+    let reach = random.pick(&[1, 1, 2]);
+    let mut table = shaped(random, n, &REGISTERS, |i| i.saturating_sub(reach)..i);
+    for record in table.iter_mut().filter(|record| record[0] == 4) {
+        if random.percent(97) {
+            record[12..].fill(0);
+        }
+    }
+    table
+}
+
+/// Registers in a ring, which take two rounds each: constant 1 makes them open one after another, and the
+/// last opens the multiplexer through which the secret input then marks them one after another.
+pub fn register_ring(random: &mut Random, n: usize) -> Table {
+    let n = n.max(LEAST_RING);
+    let start = [secret(8), constant(1, 1), multiplexer(8, n as u16 - 1, 0, 1)];
+    let ring = (3..n).map(|i| register(1 + random.below(32) as u8, 0, i as u16 - 1));
+    start.into_iter().chain(ring).collect()
+}
+
+/// A table whose record i is of one of these kinds and uses those in the window of i, or is an input where
+/// there are none. A register now and then uses any variable.
+fn shaped(
+    random: &mut Random,
+    n: usize,
+    mixture: &[usize; 5],
+    window: impl Fn(usize) -> Range<usize>,
+) -> Table {
+    let widths = random.pick(&WIDTHS);
+    let mut record = |i: usize| -> RecordBytes {
+        let before: Vec<usize> = window(i).collect();
+        let kind = if before.is_empty() { 0 } else { random_kind(random, mixture) };
+        let any = kind == 4 && random.percent(3);
+        let uses = [0; 3].map(|_| random_use(random, &before, n, any));
+        let w = random_width(random, widths);
+        random_record(random, kind, w, uses)
+    };
+    (0..n).map(&mut record).collect()
+}
+
+/// Makes any variable the A of one wire, which often closes a loop.
+fn rewire(random: &mut Random, table: &mut Table) {
+    let n = table.len();
+    let wire = random.below(n);
+    if [2, 3].contains(&table[wire][0]) {
+        let variable = random.below(n) as u16;
+        table[wire][4..6].copy_from_slice(&variable.to_le_bytes());
+    }
+}
+
+/// The table as it is, with every use turned round, or in a random order.
+fn in_some_order(random: &mut Random, table: &[RecordBytes]) -> Table {
+    let n = table.len();
+    match random.below(3) {
+        0 => table.to_vec(),
+        1 => turned(table),
+        _ => renumbered(table, &random.order(n)),
+    }
+}
+
+/// The table from its last record to its first, so that uses that pointed back point upward.
+pub fn turned(table: &[RecordBytes]) -> Table {
+    let to: Vec<usize> = (0..table.len()).rev().collect();
+    renumbered(table, &to)
+}
