@@ -2,20 +2,23 @@
 -- of the table.
 -- Assumes nothing.
 use mathlib.Core.Path.{_≡_, refl, sym, ap, _∙_}
-use mathlib.Core.Bool.{Bool, true, false, not}
+use mathlib.Core.Bool.{Bool, true, false, not, _||_}
 use mathlib.Core.List.{List, [], _∷_}
-use Prim.Native.Nat.{ℕ, zero, suc, _+_, _-_, _*_, _/_, _%_, _≤_}
+use Prim.Native.Nat.{ℕ, zero, suc, _+_, _-_, _*_, _/_, _%_, _^_, _≤_, zero-le}
 use native.Mathlib.Omega.{arith}
-use lib.Dec.{eqb, ltb}
+use lib.Dec.{eqb, leb, ltb}
 use lib.ListN.{length, getD}
 use Rattle.circuit.specs.declared.refusal.Ground.{Ground}
 use Rattle.circuit.specs.declared.refusal.Ground.the-variants.{TableTooLong, TableNotWhole, OutputShort, ScratchShort, UnknownKind, BadWidth, UnknownCode, UnusedNotZero, NoSuchVariable, ValueTooWide, Loop, StimuliNotWhole, TooManyStimuli, BadStimulus, NotAnInput, PokeTooWide, FixedInput}
 use Rattle.circuit.specs.declared.refusal.Check.{Check}
 use Rattle.circuit.specs.declared.refusal.Check.the-variants as check
-use Rattle.circuit.specs.declared.record.ReadRecord.{ReadRecord}
-use Rattle.circuit.specs.declared.record.ReadRecord.the-variants.{Read, Refused}
+use Rattle.circuit.specs.declared.record.Fields.{Fields}
+use Rattle.circuit.specs.declared.record.ReadRecord.the-variants.{Read}
+use Rattle.circuit.specs.declared.record.Record.{Record}
+use Rattle.net.specs.Tests.{every}
+use Rattle.circuit.specs.Record.{uses}
 use Rattle.circuit.specs.Refusal.{groundNumber, refuse, _then_}
-use Rattle.circuit.specs.Reading.{fieldsAt, readRecord}
+use Rattle.circuit.specs.Reading.{fieldsAt, decode, codes, unused, refuseRecord, readRecord}
 use Rattle.circuit.specs.Checks.{checkLength, checkOutput, checkScratch, atRecord, checkRecordsFrom, checkRecords, checkCall}
 use Rattle.circuit.proofs.Passing.{length-most}
 
@@ -86,45 +89,87 @@ ground-range FixedInput = (omega arith, omega arith)
 pub ground-told : (g h : Ground) → groundNumber g ≡ groundNumber h → g ≡ h
 ground-told g h e = sym (ground-numbered g) ∙ ap numbered e ∙ ground-numbered h
 
--- the place of a refusal, 0 where there is none
+-- ---- the ground and the place of a refusal on grounds 1 to 10
+
+-- a number of a refusal, 0 where there is none
+abbrev numberOf : (Ground → ℕ → ℕ) → Check → ℕ
+numberOf m check.Passed = 0
+numberOf m (check.Refused ground place) = m ground place
+
 abbrev pub placeOf : Check → ℕ
-placeOf check.Passed = 0
-placeOf (check.Refused ground place) = place
+placeOf c = numberOf (λ ground place. place) c
 
--- the place of the first refusal of two checks is that of one of them, of the second only where the first passes
-then-place : (a b : Check) (most : ℕ) → placeOf a ≤ most → (a ≡ check.Passed → placeOf b ≤ most)
-    → placeOf (a then b) ≤ most
-then-place check.Passed b most h k = k refl
-then-place (check.Refused ground place) b most h k = h
+abbrev pub groundOf : Check → ℕ
+groundOf c = numberOf (λ ground place. groundNumber ground) c
 
-refuse-place : (ground : Ground) (place : ℕ) (b : Bool) (next : Check) (most : ℕ) → place ≤ most → placeOf next ≤ most
-    → placeOf (refuse ground place b next) ≤ most
-refuse-place ground place true next most h k = h
-refuse-place ground place false next most h k = k
+module _ (m : Ground → ℕ → ℕ) (most : ℕ) where
+  -- the first refusal of two checks is that of one of them, of the second only where the first passes
+  then-most : (a b : Check) → numberOf m a ≤ most → (a ≡ check.Passed → numberOf m b ≤ most)
+      → numberOf m (a then b) ≤ most
+  then-most check.Passed b h k = k refl
+  then-most (check.Refused ground place) b h k = h
 
-record-place : (read : ReadRecord) (i most : ℕ) → i ≤ most → placeOf (atRecord read i) ≤ most
-record-place (Read r) i most h = omega arith
-record-place (Refused ground) i most h = h
+  refuse-most : (ground : Ground) (place : ℕ) (b : Bool) (next : Check) → m ground place ≤ most → numberOf m next ≤ most
+      → numberOf m (refuse ground place b next) ≤ most
+  refuse-most ground place true next h k = h
+  refuse-most ground place false next h k = k
 
-records-place : (t : List ℕ) (n count i most : ℕ) → i + count ≤ most → placeOf (checkRecordsFrom t n count i) ≤ most
-unfolding checkRecordsFrom
-records-place t n zero i most h = omega arith
-records-place t n (suc count) i most h =
-    then-place (atRecord (readRecord (fieldsAt t (i * 16)) n) i) _ most
-    (record-place (readRecord (fieldsAt t (i * 16)) n) i most (omega arith))
-    (λ e. records-place t n count (i + 1) most (omega arith))
+  module _ (end : ℕ) (small : (ground : Ground) (place : ℕ) → groundNumber ground ≤ 10 → place ≤ end → m ground place ≤ most) where
+    -- whatever the six tests of a record say
+    tests-most : (b₅ b₆ b₇ b₈ b₉ b₁₀ : Bool) (r : Record) (i : ℕ) → i ≤ end
+        → numberOf m
+        (atRecord
+        (refuseRecord UnknownKind b₅
+        (refuseRecord BadWidth b₆
+        (refuseRecord UnknownCode b₇
+        (refuseRecord UnusedNotZero b₈
+        (refuseRecord NoSuchVariable b₉
+        (refuseRecord ValueTooWide b₁₀ (Read r))))))) i)
+        ≤ most
+    tests-most true b₆ b₇ b₈ b₉ b₁₀ r i h = small UnknownKind i (omega arith) h
+    tests-most false true b₇ b₈ b₉ b₁₀ r i h = small BadWidth i (omega arith) h
+    tests-most false false true b₈ b₉ b₁₀ r i h = small UnknownCode i (omega arith) h
+    tests-most false false false true b₉ b₁₀ r i h = small UnusedNotZero i (omega arith) h
+    tests-most false false false false true b₁₀ r i h = small NoSuchVariable i (omega arith) h
+    tests-most false false false false false true r i h = small ValueTooWide i (omega arith) h
+    tests-most false false false false false false r i h = zero-le
+
+    read-most : (f : Fields) (n i : ℕ) → i ≤ end → numberOf m (atRecord (readRecord f n) i) ≤ most
+    unfolding readRecord
+    read-most f n i h =
+        tests-most (ltb 4 (f .kind)) (eqb (f .width) 0 || ltb 32 (f .width)) (leb (codes (f .kind)) (f .code))
+        (not (every (λ x. eqb x 0) (f .byte3 ∷ f .bytes10 ∷ unused (decode f) f)))
+        (not (every (λ v. ltb v n) (uses (decode f)))) (leb (2 ^ f .width) (f .value)) (decode f) i h
+
+    records-most : (t : List ℕ) (n count i : ℕ) → i + count ≤ end → numberOf m (checkRecordsFrom t n count i) ≤ most
+    unfolding checkRecordsFrom
+    records-most t n zero i h = zero-le
+    records-most t n (suc count) i h =
+        then-most (atRecord (readRecord (fieldsAt t (i * 16)) n) i) _
+        (read-most (fieldsAt t (i * 16)) n i (omega arith))
+        (λ e. records-most t n count (i + 1) (omega arith))
+
+  module _ (small : (ground : Ground) (place : ℕ) → groundNumber ground ≤ 10 → place ≤ 4096 → m ground place ≤ most) where
+    call-most : (t : List ℕ) (output each scratch room : ℕ) → numberOf m (checkCall t output each scratch room) ≤ most
+    unfolding checkRecords
+    call-most t output each scratch room =
+        then-most (checkLength (length t)) _
+        (refuse-most TableTooLong 0 (ltb 65536 (length t)) _ (small TableTooLong 0 (omega arith) (omega arith))
+        (refuse-most TableNotWhole 0 (not (eqb (length t % 16) 0)) check.Passed
+        (small TableNotWhole 0 (omega arith) (omega arith)) zero-le))
+        (λ e.
+        let bytes : length t ≤ 65536 = length-most (length t) e in
+        then-most (checkOutput output (length t / 16 * each)) _
+        (refuse-most OutputShort 0 (ltb output (length t / 16 * each)) check.Passed
+        (small OutputShort 0 (omega arith) (omega arith)) zero-le)
+        (λ _.
+        then-most (checkScratch scratch (length t / 16 * room)) _
+        (refuse-most ScratchShort 0 (ltb scratch (length t / 16 * room)) check.Passed
+        (small ScratchShort 0 (omega arith) (omega arith)) zero-le)
+        (λ _. records-most 4096 small t (length t / 16) (length t / 16) 0 (omega arith))))
 
 pub call-place : (t : List ℕ) (output each scratch room : ℕ) → placeOf (checkCall t output each scratch room) ≤ 4096
-unfolding checkRecords
-call-place t output each scratch room =
-    then-place (checkLength (length t)) _ 4096
-    (refuse-place TableTooLong 0 (ltb 65536 (length t)) _ 4096 (omega arith)
-    (refuse-place TableNotWhole 0 (not (eqb (length t % 16) 0)) check.Passed 4096 (omega arith) (omega arith)))
-    (λ e.
-    let most : length t ≤ 65536 = length-most (length t) e in
-    then-place (checkOutput output (length t / 16 * each)) _ 4096
-    (refuse-place OutputShort 0 (ltb output (length t / 16 * each)) check.Passed 4096 (omega arith) (omega arith))
-    (λ _.
-    then-place (checkScratch scratch (length t / 16 * room)) _ 4096
-    (refuse-place ScratchShort 0 (ltb scratch (length t / 16 * room)) check.Passed 4096 (omega arith) (omega arith))
-    (λ _. records-place t (length t / 16) (length t / 16) 0 4096 (omega arith))))
+call-place = call-most (λ ground place. place) 4096 (λ ground place h k. k)
+
+pub call-ground : (t : List ℕ) (output each scratch room : ℕ) → groundOf (checkCall t output each scratch room) ≤ 10
+call-ground = call-most (λ ground place. groundNumber ground) 10 (λ ground place h k. h)

@@ -1,5 +1,5 @@
--- Refusals on grounds 1 to 11: at most one of 1 to 10 is the first that holds of equal buffers, and their places are
--- small.
+-- Refusals on grounds 1 to 11: at most one of 1 to 10 is the first that holds of equal buffers, its number is at most
+-- 10, and places are small.
 -- Assumes nothing.
 use mathlib.Core.Path.{_≡_, sym, ap, _∙_}
 use mathlib.Core.List.{List, _++_}
@@ -9,7 +9,8 @@ use lib.ListN.{length, drop, replicate, length-append, length-drop, length-repli
 use Rattle.circuit.specs.declared.refusal.Ground.{Ground}
 use Rattle.circuit.specs.declared.refusal.Check.{Check}
 use Rattle.circuit.specs.declared.refusal.Check.the-variants.{Passed, Refused}
-use Rattle.circuit.proofs.Places.{placeOf, call-place}
+use Rattle.circuit.specs.Refusal.{groundNumber}
+use Rattle.circuit.proofs.Places.{placeOf, call-place, call-ground}
 use Rattle.schedule.specs.Call.{Buffers, buffers, size, TurnedDown, LoopShown}
 
 abbrev refusal-ground : Ground → Check → Ground
@@ -39,6 +40,11 @@ pub turned-down-place : (each room : ℕ) (b : Buffers) (g : Ground) (place : �
     → place ≤ 4096
 turned-down-place each room b g place p =
     rw (p .first) at (call-place (b .table) (length (b .output)) each (length (b .scratch)) room)
+
+pub turned-down-ground : (each room : ℕ) (b : Buffers) (g : Ground) (place : ℕ) → TurnedDown each room b g place
+    → groundNumber g ≤ 10
+turned-down-ground each room b g place p =
+    rw (p .first) at (call-ground (b .table) (length (b .output)) each (length (b .scratch)) room)
 
 pub loop-place : (each room : ℕ) (b : Buffers) (place : ℕ) → LoopShown each room b place
     → length (b .scratch-exit) ≡ length (b .scratch) → size b * room ≤ length (b .scratch) → place ≤ size b * room

@@ -53,10 +53,14 @@ module _ (each room : ℕ) (b : Buffers) where
   abbrev pub scratchCleared : List ℕ
   scratchCleared = replicate (size b * room) 0 ++ drop (size b * room) (b .scratch)
 
+  -- a refusal changes no output byte
+  abbrev pub OutputKept : Type 0
+  OutputKept = b .output-exit ≡ b .output
+
   -- one of grounds 1 to 10 is the first that holds, and every buffer is as it was
   pub record TurnedDown (g : Ground) (place : ℕ) : Type 0 where
     pub first : checked ≡ Refused g place
-    pub output : b .output-exit ≡ b .output
+    pub output : OutputKept
     pub scratch : b .scratch-exit ≡ b .scratch
 
   -- none of 1 to 10 holds, and the scratch shows a loop, its lowest variable first; the place is its length
@@ -66,5 +70,5 @@ module _ (each room : ℕ) (b : Buffers) where
     pub loop : Loop (graph (circuitOf b)) row
     pub lowest : LowestFirst row
     pub row-length : length row ≡ place
-    pub output : b .output-exit ≡ b .output
+    pub output : OutputKept
     pub scratch : b .scratch-exit ≡ scratchWith row

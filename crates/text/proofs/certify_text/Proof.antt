@@ -1,0 +1,38 @@
+-- What the answer shows stands in the buffers, and its text fills the rest of `out`.
+-- Assumes nothing.
+use native.Mathlib.Omega.{arith}
+use Rattle.text.proofs.Pieces.{put-whole}
+use Rattle.text.proofs.Answers.{answer-printable}
+use borrow.Author.Needs.{needs}
+use Rattle.text.proofs.certify_text.Statement.{statement}
+use Rattle.text.proofs.certify_text.Tie as tie
+
+certify-requires : tie.Need-certify-requires
+certify-requires c κs = search needs
+
+put-answer-requires : tie.Need-put-answer-requires
+put-answer-requires c κs =
+    let call = c .before .before .before .before .before .before .before .certify in
+    (omega arith, answer-printable _ (call .kept .1 .0) (call .kept .1 .1 .0) (call .result) (call .ensures))
+
+same-length : tie.Need-same-length
+same-length c = search needs
+
+same-length-2 : tie.Need-same-length-2
+same-length-2 c = search needs
+
+returns : tie.Need-returns
+returns c =
+    let call = c .before .before .before .before .before .before .before .before .certify in
+    let put = c .put-answer .ensures in (
+      record {
+        answer = call .result;
+        certifies = call .ensures;
+        text = put-whole put;
+      },
+      (omega (arith, put .start), omega (arith, put .long)),
+    )
+
+pub certify-text-spec : {M : Type 1} → statement M
+certify-text-spec =
+    tie.close (tie.spec certify-requires put-answer-requires same-length same-length-2 returns)

@@ -1,0 +1,102 @@
+-- What the programs print: numbers in base ten, the lines of a refusal and of a certificate. A text is the list of its
+-- bytes, in ASCII; each word below has its characters beside it.
+-- Assumes nothing.
+use mathlib.Core.Bool.{true, false}
+use mathlib.Core.List.{List, [], _∷_, _++_}
+use Prim.Native.Nat.{ℕ, zero, suc, _+_, _-_, _/_, _%_}
+use lib.Dec.{eqb, ltb}
+use lib.ListN.{getD}
+use Rattle.circuit.specs.declared.refusal.Ground.{Ground}
+use Rattle.circuit.specs.Refusal.{groundNumber}
+use Rattle.fact.specs.declared.Fact.{Fact}
+use Rattle.fact.specs.declared.Fact.the-variants.{Always, Open, Marked}
+use Rattle.fact.specs.Fact.{factAt}
+use Rattle.certificate.specs.declared.Certified.{Certified}
+use Rattle.certificate.specs.declared.Certified.the-variants.{Accepted, Refused}
+
+-- the digits of n in base ten, the most significant first; `fuel` is enough where it is more than n
+unfoldable pub digits : ℕ → ℕ → List ℕ
+digits zero n = []
+digits (suc fuel) n = elim (ltb n 10) [ true ↦ (48 + n) ∷ [] | false ↦ digits fuel (n / 10) ++ ((48 + n % 10) ∷ []) ]
+
+-- n in base ten
+unfoldable pub decimal : ℕ → List ℕ
+unfolding digits
+decimal n = digits (suc n) n
+
+-- the newline that ends every line
+abbrev pub newline : List ℕ
+newline = 10 ∷ []
+
+-- " "
+abbrev pub space : List ℕ
+space = 32 ∷ []
+
+-- "refused "
+abbrev pub refused : List ℕ
+refused = 114 ∷ 101 ∷ 102 ∷ 117 ∷ 115 ∷ 101 ∷ 100 ∷ 32 ∷ []
+
+-- " at "
+abbrev pub at : List ℕ
+at = 32 ∷ 97 ∷ 116 ∷ 32 ∷ []
+
+-- "rounds "
+abbrev pub rounds : List ℕ
+rounds = 114 ∷ 111 ∷ 117 ∷ 110 ∷ 100 ∷ 115 ∷ 32 ∷ []
+
+-- " always "
+abbrev pub always : List ℕ
+always = 32 ∷ 97 ∷ 108 ∷ 119 ∷ 97 ∷ 121 ∷ 115 ∷ 32 ∷ []
+
+-- " open"
+abbrev pub isOpen : List ℕ
+isOpen = 32 ∷ 111 ∷ 112 ∷ 101 ∷ 110 ∷ []
+
+-- " marked"
+abbrev pub isMarked : List ℕ
+isMarked = 32 ∷ 109 ∷ 97 ∷ 114 ∷ 107 ∷ 101 ∷ 100 ∷ []
+
+-- a refusal's line: its number and place
+abbrev pub refusalLine : Ground → ℕ → List ℕ
+refusalLine g place = refused ++ (decimal (groundNumber g) ++ (at ++ (decimal place ++ newline)))
+
+-- `count` numbers of the scratch from number i on, a space before each
+unfoldable pub spaced : List ℕ → ℕ → ℕ → List ℕ
+spaced s zero i = []
+spaced s (suc count) i = space ++ (decimal (getD s i 0) ++ spaced s count (i + 1))
+
+-- a loop's line: the first numbers of the scratch, of which there is one and `more`, single spaces between
+abbrev pub loopLine : List ℕ → ℕ → List ℕ
+loopLine s more = decimal (getD s 0 0) ++ (spaced s more 1 ++ newline)
+
+-- a fact and, for always, its number
+abbrev pub factText : Fact → List ℕ
+factText (Always n) = always ++ decimal n
+factText Open = isOpen
+factText Marked = isMarked
+
+-- a variable's line
+abbrev pub factLine : ℕ → Fact → List ℕ
+factLine v f = decimal v ++ (factText f ++ newline)
+
+-- the lines of `count` variables from variable v on, from a certificate's bytes
+unfoldable pub factLines : List ℕ → ℕ → ℕ → List ℕ
+factLines cells zero v = []
+factLines cells (suc count) v = factLine v (factAt cells v) ++ factLines cells count (v + 1)
+
+-- the line of the count of rounds
+abbrev pub roundsLine : ℕ → List ℕ
+roundsLine k = rounds ++ (decimal k ++ newline)
+
+-- a refusal's lines: for ground 11 a second line has the loop that the scratch shows
+unfoldable pub refusalText : Ground → ℕ → List ℕ → List ℕ
+refusalText g place s =
+    elim (eqb (groundNumber g) 11) [
+      | true ↦ refusalLine g place ++ loopLine s (place - 1)
+      | false ↦ refusalLine g place
+    ]
+
+-- all that is printed of the certifying call's answer on a table of n records
+abbrev pub answerText : Certified → ℕ → List ℕ → List ℕ → List ℕ
+answerText (Accepted k) n cells s = roundsLine k ++ factLines cells n 0
+answerText (Refused g place) n cells s = refusalText g place s

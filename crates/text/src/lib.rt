@@ -1,0 +1,69 @@
+// The text that the programs print, made in a lent buffer: numbers in base ten, lines, whole answers. It is put from the
+// buffer's end down, since a number's last digit comes out first; a function answers where the text begins.
+ghost use Prim.Native.Nat.{_≤_};
+ghost use lib.ListN.{length};
+ghost use Rattle.schedule.specs.Call.{buffers};
+ghost use Rattle.text.specs.Text.{refusalText, answerText};
+ghost use Rattle.text.specs.Pieces.{Put};
+ghost use Rattle.text.specs.Prints.{ShowsRow, Printable, Prints};
+use crate::lines::put_facts;
+use crate::lines::put_loop;
+use crate::lines::put_refusal;
+use crate::lines::put_rounds;
+use certificate::Certified;
+use certificate::certify;
+use circuit::refusal::Ground;
+use circuit::refusal::ground_number;
+
+mod lines;
+mod put;
+
+// A refusal's line and, for ground 11, the line of the loop that the scratch shows.
+fn put_refused(out: &mut [u8], ground: Ground, place: usize, scratch: &[u16]) -> usize
+    requires { ⌜ (131072 ≤ length (now out)) × ShowsRow ground place (length (now scratch)) ⌝ }
+    ensures { λ r. ⌜ Put (refusalText ground place (now (scratch .entry))) (now (out .entry)) (length (now (out .entry))) (now (out .exit)) r ⌝ }
+{
+    let end = out.len();
+    if ground_number(ground) == 11 {
+        let p = put_loop(out, end, scratch, place - 1);
+        return put_refusal(out, p, ground, place);
+    }
+    put_refusal(out, end, ground, place)
+}
+
+// The certifying call's answer, on a table of n records.
+fn put_answer(
+    out: &mut [u8],
+    answer: Certified,
+    n: usize,
+    certificate: &[u8],
+    scratch: &[u16],
+) -> usize
+    requires { ⌜ (131072 ≤ length (now out)) × Printable answer n (length (now certificate)) (length (now scratch)) ⌝ }
+    ensures { λ r. ⌜ Put (answerText answer n (now (certificate .entry)) (now (scratch .entry)))
+        (now (out .entry)) (length (now (out .entry))) (now (out .exit)) r ⌝ }
+{
+    match answer {
+        Certified::Accepted(rounds) => {
+            let p = put_facts(out, out.len(), certificate, n);
+            put_rounds(out, p, rounds)
+        }
+        Certified::Refused(ground, place) => put_refused(out, ground, place, scratch),
+    }
+}
+
+// Certifies a table and makes the text of the answer. It stands in `out` from the place answered up to the end.
+pub fn certify_text(
+    table: &[u8],
+    certificate: &mut [u8],
+    scratch: &mut [u16],
+    out: &mut [u8; 131072],
+) -> usize
+    ensures { λ r. ⌜ Prints
+        (buffers (now (table .entry)) (now (certificate .entry)) (now (scratch .entry)) (now (certificate .exit)) (now (scratch .exit)))
+        (now (out .exit)) r ⌝ }
+    ensures { λ r. ⌜ (r ≤ 131072) × (131072 ≤ length (now (out .exit))) ⌝ }
+{
+    let answer = certify(table, certificate, scratch);
+    put_answer(out, answer, table.len() / 16, certificate, scratch)
+}

@@ -1,0 +1,99 @@
+// Lines of what the programs print: a refusal, a loop, a variable's fact, the count of rounds.
+ghost use Prim.Native.Nat.{ℕ, _+_, _*_, _≤_, _<_};
+ghost use lib.ListN.{length};
+ghost use Rattle.text.specs.Text.{refusalLine, spaced, loopLine, factText, factLine, factLines, roundsLine};
+ghost use Rattle.text.specs.Pieces.{Put};
+use crate::put::put_byte;
+use crate::put::put_number;
+use crate::put::put_word;
+use circuit::number::wide;
+use circuit::refusal::Ground;
+use circuit::refusal::ground_number;
+use fact::Fact;
+use fact::cell::load;
+
+pub fn put_refusal(out: &mut [u8], at: usize, ground: Ground, place: usize) -> usize
+    requires { ⌜ (53 ≤ at) × (at ≤ length (now out)) ⌝ }
+    ensures { λ r. ⌜ Put (refusalLine ground place) (now (out .entry)) at (now (out .exit)) r ⌝ }
+{
+    let end = put_byte(out, at, 10);
+    let p = put_number(out, end, place as u64);
+    let q = put_word(out, p, b" at ");
+    let s = put_number(out, q, ground_number(ground));
+    put_word(out, s, b"refused ")
+}
+
+// The numbers from number 1 on, each with a space before it.
+fn put_spaced(out: &mut [u8], at: usize, scratch: &[u16], more: usize) -> usize
+    requires { ⌜ (more < length (now scratch)) × (more * 6 ≤ at) × (at ≤ length (now out)) ⌝ }
+    ensures { λ r. ⌜ Put (spaced (now (scratch .entry)) more 1) (now (out .entry)) at (now (out .exit)) r ⌝ }
+    ensures { λ r. ⌜ at ≤ r + more * 6 ⌝ }
+{
+    let mut i = more;
+    let mut p = at;
+    while i > 0 {
+        let q = put_number(out, p, wide(scratch[i]) as u64);
+        p = put_byte(out, q, 32);
+        i -= 1;
+    }
+    p
+}
+
+pub fn put_loop(out: &mut [u8], at: usize, scratch: &[u16], more: usize) -> usize
+    requires { ⌜ (more < length (now scratch)) × (more * 6 + 6 ≤ at) × (at ≤ length (now out)) ⌝ }
+    ensures { λ r. ⌜ Put (loopLine (now (scratch .entry)) more) (now (out .entry)) at (now (out .exit)) r ⌝ }
+    ensures { λ r. ⌜ at ≤ r + (more * 6 + 6) ⌝ }
+{
+    let end = put_byte(out, at, 10);
+    let p = put_spaced(out, end, scratch, more);
+    put_number(out, p, wide(scratch[0]) as u64)
+}
+
+fn put_fact(out: &mut [u8], at: usize, f: Fact) -> usize
+    requires { ⌜ (18 ≤ at) × (at ≤ length (now out)) ⌝ }
+    ensures { λ r. ⌜ Put (factText f) (now (out .entry)) at (now (out .exit)) r ⌝ }
+    ensures { λ r. ⌜ at ≤ r + 18 ⌝ }
+{
+    match f {
+        Fact::Always(n) => {
+            let p = put_number(out, at, n as u64);
+            put_word(out, p, b" always ")
+        }
+        Fact::Open => put_word(out, at, b" open"),
+        Fact::Marked => put_word(out, at, b" marked"),
+    }
+}
+
+fn put_fact_line(out: &mut [u8], at: usize, v: usize, f: Fact) -> usize
+    requires { ⌜ (v < 4096) × (23 ≤ at) × (at ≤ length (now out)) ⌝ }
+    ensures { λ r. ⌜ Put (factLine v f) (now (out .entry)) at (now (out .exit)) r ⌝ }
+    ensures { λ r. ⌜ at ≤ r + 23 ⌝ }
+{
+    let end = put_byte(out, at, 10);
+    let p = put_fact(out, end, f);
+    put_number(out, p, v as u64)
+}
+
+// The lines of n variables, from a certificate's bytes.
+pub fn put_facts(out: &mut [u8], at: usize, certificate: &[u8], n: usize) -> usize
+    requires { ⌜ (n ≤ 4096) × (n * 8 ≤ length (now certificate)) × (n * 23 ≤ at) × (at ≤ length (now out)) ⌝ }
+    ensures { λ r. ⌜ Put (factLines (now (certificate .entry)) n 0) (now (out .entry)) at (now (out .exit)) r ⌝ }
+    ensures { λ r. ⌜ at ≤ r + n * 23 ⌝ }
+{
+    let mut v = n;
+    let mut p = at;
+    while v > 0 {
+        v -= 1;
+        p = put_fact_line(out, p, v, load(certificate, v));
+    }
+    p
+}
+
+pub fn put_rounds(out: &mut [u8], at: usize, rounds: u32) -> usize
+    requires { ⌜ (18 ≤ at) × (at ≤ length (now out)) ⌝ }
+    ensures { λ r. ⌜ Put (roundsLine rounds) (now (out .entry)) at (now (out .exit)) r ⌝ }
+{
+    let end = put_byte(out, at, 10);
+    let p = put_number(out, end, rounds as u64);
+    put_word(out, p, b"rounds ")
+}
