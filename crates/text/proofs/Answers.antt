@@ -3,7 +3,7 @@
 use mathlib.Core.Path.{_≡_, refl}
 use mathlib.Core.Logic.{inl, inr}
 use mathlib.Core.List.{List, _++_}
-use Prim.Native.Nat.{ℕ, _-_, _*_, _≤_}
+use Prim.Native.Nat.{ℕ, _*_, _≤_}
 use native.Mathlib.Omega.{arith}
 use borrow.Author.Tests.{eq-eqb, ne-eqb}
 use lib.ListN.{length}
@@ -20,7 +20,7 @@ use Rattle.text.specs.Text.{refusalLine, loopLine, refusalText}
 use Rattle.text.specs.Prints.{Printable}
 
 module _ (g : Ground) (place : ℕ) (s : List ℕ) where
-  pub loop-text : groundNumber g ≡ 11 → refusalText g place s ≡ refusalLine g place ++ loopLine s (place - 1)
+  pub loop-text : groundNumber g ≡ 11 → refusalText g place s ≡ refusalLine g place ++ loopLine s place
   unfolding refusalText
   loop-text e = rw (eq-eqb (groundNumber g) 11 e, refusalText)
 

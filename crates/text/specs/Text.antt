@@ -60,14 +60,18 @@ isMarked = 32 ∷ 109 ∷ 97 ∷ 114 ∷ 107 ∷ 101 ∷ 100 ∷ []
 abbrev pub refusalLine : Ground → ℕ → List ℕ
 refusalLine g place = refused ++ (decimal (groundNumber g) ++ (at ++ (decimal place ++ newline)))
 
--- `count` numbers of the scratch from number i on, a space before each
-unfoldable pub spaced : List ℕ → ℕ → ℕ → List ℕ
-spaced s zero i = []
-spaced s (suc count) i = space ++ (decimal (getD s i 0) ++ spaced s count (i + 1))
+-- `count` pieces of text, of the numbers from i on
+unfoldable pub pieces : (ℕ → List ℕ) → ℕ → ℕ → List ℕ
+pieces text zero i = []
+pieces text (suc count) i = text i ++ pieces text count (i + 1)
 
--- a loop's line: the first numbers of the scratch, of which there is one and `more`, single spaces between
+-- number i of the scratch with a space before it
+abbrev pub spaced : List ℕ → ℕ → List ℕ
+spaced s i = space ++ decimal (getD s i 0)
+
+-- a loop's line: the first numbers of the scratch, as many as the loop has, single spaces between
 abbrev pub loopLine : List ℕ → ℕ → List ℕ
-loopLine s more = decimal (getD s 0 0) ++ (spaced s more 1 ++ newline)
+loopLine s size = decimal (getD s 0 0) ++ (pieces (spaced s) (size - 1) 1 ++ newline)
 
 -- a fact and, for always, its number
 abbrev pub factText : Fact → List ℕ
@@ -79,10 +83,17 @@ factText Marked = isMarked
 abbrev pub factLine : ℕ → Fact → List ℕ
 factLine v f = decimal v ++ (factText f ++ newline)
 
--- the lines of `count` variables from variable v on, from a certificate's bytes
-unfoldable pub factLines : List ℕ → ℕ → ℕ → List ℕ
-factLines cells zero v = []
-factLines cells (suc count) v = factLine v (factAt cells v) ++ factLines cells count (v + 1)
+-- the lines of n variables, from a certificate's bytes
+abbrev pub factLines : List ℕ → ℕ → List ℕ
+factLines cells n = pieces (λ v. factLine v (factAt cells v)) n 0
+
+-- a variable's line with its value
+abbrev pub valueLine : ℕ → ℕ → List ℕ
+valueLine v x = decimal v ++ (space ++ (decimal x ++ newline))
+
+-- the lines of n variables, from the values that a bench run writes
+abbrev pub valueLines : List ℕ → ℕ → List ℕ
+valueLines values n = pieces (λ v. valueLine v (getD values v 0)) n 0
 
 -- the line of the count of rounds
 abbrev pub roundsLine : ℕ → List ℕ
@@ -92,11 +103,11 @@ roundsLine k = rounds ++ (decimal k ++ newline)
 unfoldable pub refusalText : Ground → ℕ → List ℕ → List ℕ
 refusalText g place s =
     elim (eqb (groundNumber g) 11) [
-      | true ↦ refusalLine g place ++ loopLine s (place - 1)
+      | true ↦ refusalLine g place ++ loopLine s place
       | false ↦ refusalLine g place
     ]
 
 -- all that is printed of the certifying call's answer on a table of n records
 abbrev pub answerText : Certified → ℕ → List ℕ → List ℕ → List ℕ
-answerText (Accepted k) n cells s = roundsLine k ++ factLines cells n 0
+answerText (Accepted k) n cells s = roundsLine k ++ factLines cells n
 answerText (Refused g place) n cells s = refusalText g place s

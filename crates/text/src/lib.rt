@@ -25,7 +25,7 @@ fn put_refused(out: &mut [u8], ground: Ground, place: usize, scratch: &[u16]) ->
 {
     let end = out.len();
     if ground_number(ground) == 11 {
-        let p = put_loop(out, end, scratch, place - 1);
+        let p = put_loop(out, end, scratch, place);
         return put_refusal(out, p, ground, place);
     }
     put_refusal(out, end, ground, place)

@@ -1,7 +1,7 @@
 // Lines of what the programs print: a refusal, a loop, a variable's fact, the count of rounds.
-ghost use Prim.Native.Nat.{ℕ, _+_, _*_, _≤_, _<_};
+ghost use Prim.Native.Nat.{_+_, _-_, _*_, _≤_, _<_};
 ghost use lib.ListN.{length};
-ghost use Rattle.text.specs.Text.{refusalLine, spaced, loopLine, factText, factLine, factLines, roundsLine};
+ghost use Rattle.text.specs.Text.{refusalLine, pieces, spaced, loopLine, factText, factLine, factLines, valueLine, valueLines, roundsLine};
 ghost use Rattle.text.specs.Pieces.{Put};
 use crate::put::put_byte;
 use crate::put::put_number;
@@ -23,29 +23,29 @@ pub fn put_refusal(out: &mut [u8], at: usize, ground: Ground, place: usize) -> u
     put_word(out, s, b"refused ")
 }
 
-// The numbers from number 1 on, each with a space before it.
-fn put_spaced(out: &mut [u8], at: usize, scratch: &[u16], more: usize) -> usize
-    requires { ⌜ (more < length (now scratch)) × (more * 6 ≤ at) × (at ≤ length (now out)) ⌝ }
-    ensures { λ r. ⌜ Put (spaced (now (scratch .entry)) more 1) (now (out .entry)) at (now (out .exit)) r ⌝ }
-    ensures { λ r. ⌜ at ≤ r + more * 6 ⌝ }
+// The numbers of a loop from number 1 on, each with a space before it.
+fn put_spaced(out: &mut [u8], at: usize, scratch: &[u16], size: usize) -> usize
+    requires { ⌜ (1 ≤ size) × (size ≤ length (now scratch)) × (size * 6 ≤ at) × (at ≤ length (now out)) ⌝ }
+    ensures { λ r. ⌜ Put (pieces (spaced (now (scratch .entry))) (size - 1) 1) (now (out .entry)) at (now (out .exit)) r ⌝ }
+    ensures { λ r. ⌜ at ≤ r + (size - 1) * 6 ⌝ }
 {
-    let mut i = more;
+    let mut i = size;
     let mut p = at;
-    while i > 0 {
+    while i > 1 {
+        i -= 1;
         let q = put_number(out, p, wide(scratch[i]) as u64);
         p = put_byte(out, q, 32);
-        i -= 1;
     }
     p
 }
 
-pub fn put_loop(out: &mut [u8], at: usize, scratch: &[u16], more: usize) -> usize
-    requires { ⌜ (more < length (now scratch)) × (more * 6 + 6 ≤ at) × (at ≤ length (now out)) ⌝ }
-    ensures { λ r. ⌜ Put (loopLine (now (scratch .entry)) more) (now (out .entry)) at (now (out .exit)) r ⌝ }
-    ensures { λ r. ⌜ at ≤ r + (more * 6 + 6) ⌝ }
+pub fn put_loop(out: &mut [u8], at: usize, scratch: &[u16], size: usize) -> usize
+    requires { ⌜ (1 ≤ size) × (size ≤ length (now scratch)) × (size * 6 + 1 ≤ at) × (at ≤ length (now out)) ⌝ }
+    ensures { λ r. ⌜ Put (loopLine (now (scratch .entry)) size) (now (out .entry)) at (now (out .exit)) r ⌝ }
+    ensures { λ r. ⌜ at ≤ r + size * 6 ⌝ }
 {
     let end = put_byte(out, at, 10);
-    let p = put_spaced(out, end, scratch, more);
+    let p = put_spaced(out, end, scratch, size);
     put_number(out, p, wide(scratch[0]) as u64)
 }
 
@@ -77,7 +77,7 @@ fn put_fact_line(out: &mut [u8], at: usize, v: usize, f: Fact) -> usize
 // The lines of n variables, from a certificate's bytes.
 pub fn put_facts(out: &mut [u8], at: usize, certificate: &[u8], n: usize) -> usize
     requires { ⌜ (n ≤ 4096) × (n * 8 ≤ length (now certificate)) × (n * 23 ≤ at) × (at ≤ length (now out)) ⌝ }
-    ensures { λ r. ⌜ Put (factLines (now (certificate .entry)) n 0) (now (out .entry)) at (now (out .exit)) r ⌝ }
+    ensures { λ r. ⌜ Put (factLines (now (certificate .entry)) n) (now (out .entry)) at (now (out .exit)) r ⌝ }
     ensures { λ r. ⌜ at ≤ r + n * 23 ⌝ }
 {
     let mut v = n;
@@ -85,6 +85,32 @@ pub fn put_facts(out: &mut [u8], at: usize, certificate: &[u8], n: usize) -> usi
     while v > 0 {
         v -= 1;
         p = put_fact_line(out, p, v, load(certificate, v));
+    }
+    p
+}
+
+fn put_value_line(out: &mut [u8], at: usize, v: usize, x: u32) -> usize
+    requires { ⌜ (v < 4096) × (16 ≤ at) × (at ≤ length (now out)) ⌝ }
+    ensures { λ r. ⌜ Put (valueLine v x) (now (out .entry)) at (now (out .exit)) r ⌝ }
+    ensures { λ r. ⌜ at ≤ r + 16 ⌝ }
+{
+    let end = put_byte(out, at, 10);
+    let p = put_number(out, end, x as u64);
+    let q = put_byte(out, p, 32);
+    put_number(out, q, v as u64)
+}
+
+// The lines of n variables, from the values that a bench run writes.
+pub fn put_values(out: &mut [u8], at: usize, values: &[u32], n: usize) -> usize
+    requires { ⌜ (n ≤ 4096) × (n ≤ length (now values)) × (n * 16 ≤ at) × (at ≤ length (now out)) ⌝ }
+    ensures { λ r. ⌜ Put (valueLines (now (values .entry)) n) (now (out .entry)) at (now (out .exit)) r ⌝ }
+    ensures { λ r. ⌜ at ≤ r + n * 16 ⌝ }
+{
+    let mut v = n;
+    let mut p = at;
+    while v > 0 {
+        v -= 1;
+        p = put_value_line(out, p, v, values[v]);
     }
     p
 }

@@ -1,9 +1,7 @@
 -- By whether the ground is 11.
 -- Assumes nothing.
-use mathlib.Core.Path.{_≡_, sym}
-use Prim.Native.Nat.{_-_}
+use mathlib.Core.Path.{sym}
 use native.Mathlib.Omega.{arith}
-use Rattle.circuit.specs.Refusal.{groundNumber}
 use Rattle.text.proofs.Pieces.{put-then, put-as}
 use Rattle.text.proofs.Answers.{loop-text, other-text}
 use borrow.Author.Needs.{needs}
@@ -13,20 +11,16 @@ use Rattle.text.proofs.put_refused.Tie as tie
 ground-number-requires : tie.Need-ground-number-requires
 ground-number-requires c κs = search needs
 
-sub-put-loop : tie.Need-sub-put-loop
-sub-put-loop c =
-    let p = c .before .before .before .before .before .pre .1 (omega (arith, c .before .before .ground-number .ensures)) in omega (arith, p .0)
-
 put-loop-requires : tie.Need-put-loop-requires
 put-loop-requires c κs =
     let p = c .before .before .before .before .before .pre .1 (omega (arith, c .before .before .ground-number .ensures)) in
-    (omega (arith, p .0, p .1), omega (arith, p .0, p .2), omega arith)
+    (p .0, p .1, omega (arith, p .2), omega arith)
 
 put-refusal-requires : tie.Need-put-refusal-requires
 put-refusal-requires c κs =
     let p = c .before .before .before .before .before .before .before .before .before .pre .1 (omega (arith, c .before .before .before .before .before .before .ground-number .ensures)) in
     let row = c .before .before .before .put-loop .ensures in
-    (omega (arith, p .0, p .2, row .1), omega (arith, row .0 .start, row .0 .long))
+    (omega (arith, p .2, row .1), omega (arith, row .0 .start, row .0 .long))
 
 same-length : tie.Need-same-length
 same-length c = search needs
@@ -55,7 +49,6 @@ put-refused-spec =
     tie.close
     (tie.spec
     ground-number-requires
-    sub-put-loop
     put-loop-requires
     put-refusal-requires
     same-length

@@ -1,33 +1,32 @@
 -- The loop's invariant: the lines from variable v on stand. The measure is v.
 -- Assumes nothing.
-use mathlib.Core.Path.{_≡_, sym, ap, ap₂, _∙_, subst}
-use mathlib.Core.List.{List, [], _++_}
+use mathlib.Core.Path.{_≡_, ap}
+use mathlib.Core.List.{List}
 use Prim.Native.Nat.{ℕ, _+_, _-_, _*_, _≤_}
 use native.Mathlib.Omega.{arith}
 use Rattle.fact.specs.declared.Fact.{Fact}
-use Rattle.text.specs.Text.{factLine, factLines}
+use Rattle.fact.specs.Fact.{factAt}
+use Rattle.text.specs.Text.{pieces, factLine}
 use Rattle.text.specs.Pieces.{Put}
-use Rattle.text.proofs.Pieces.{put-none, put-then, put-as}
-use Rattle.text.proofs.Rows.{one-line}
+use Rattle.text.proofs.Pieces.{put-as}
+use Rattle.text.proofs.Rows.{no-pieces, one-more, all-pieces}
 use Rattle.text.proofs.lines.put_facts.Statement.{statement}
 use Rattle.text.proofs.lines.put_facts.Tie as tie
 
+abbrev line : List ℕ → ℕ → List ℕ
+line certificate v = factLine v (factAt certificate v)
+
 abbrev Inv-loop : tie.InvT-loop
-Inv-loop out₀ at certificate n v₀ p₀ out v p = (v ≤ n) × Put (factLines certificate (n - v) v) out₀ at out p × (at ≤ p + (n - v) * 23)
+Inv-loop out₀ at certificate n v₀ p₀ out v p =
+    (v ≤ n) × Put (pieces (line certificate) (n - v) v) out₀ at out p × (at ≤ p + (n - v) * 23)
 
 abbrev μ-loop : tie.MeasureT-loop
 μ-loop out₀ at certificate n v₀ p₀ out v p = v
 
 loop-holds : tie.Need-loop-holds Inv-loop μ-loop
-unfolding factLines
 loop-holds c =
     let x = c .before .before .args in
-    let none : x .n - x .n ≡ 0 = omega arith in (
-      omega arith,
-      subst (λ (k : ℕ). Put (factLines (x .certificate .now) k (x .n)) (x .out .now) (x .at) (x .out .now) (x .at))
-          (sym none) (put-none (x .out .now) (x .at)),
-      omega arith,
-    )
+    (omega arith, no-pieces (line (x .certificate .now)) (x .n) (x .out .now) (x .at), omega arith)
 
 sub-v : tie.Need-sub-v Inv-loop μ-loop
 sub-v c = omega arith
@@ -45,14 +44,11 @@ loop-again : tie.Need-loop-again Inv-loop μ-loop
 loop-again c =
     let x = c .before .before .before .before .before .before .before .before .before .args in
     let l = c .before .before .before .before .before .before .loop in
-    let line = c .before .before .put-fact-line .ensures in (
+    let put = c .before .before .put-fact-line .ensures in (
       omega arith,
-      put-as
-          (ap (λ (f : Fact). factLine (l .v - 1) f ++ factLines (x .certificate .now) (x .n - l .v) (l .v))
-          (c .before .before .before .load .ensures)
-          ∙ sym (one-line (x .certificate .now) (x .n) (l .v) (omega arith) (l .inv .0)))
-          (put-then (l .inv .1) (line .0)),
-      omega (arith, line .1),
+      one-more (line (x .certificate .now)) (x .n) (l .v) (omega arith) (l .inv .0) (l .inv .1)
+          (put-as (ap (λ (f : Fact). factLine (l .v - 1) f) (c .before .before .before .load .ensures)) (put .0)),
+      omega (arith, put .1),
     )
 
 same-length : tie.Need-same-length Inv-loop μ-loop
@@ -62,12 +58,7 @@ returns : tie.Need-returns Inv-loop μ-loop
 returns c =
     let x = c .before .before .before .before .args in
     let l = c .before .loop in
-    let none : l .v ≡ 0 = omega arith in
-    let whole : x .n - l .v ≡ x .n = omega arith in (
-      put-as
-          (ap₂ (factLines (x .certificate .now)) whole none) (l .inv .1),
-      omega arith,
-    )
+    (all-pieces (line (x .certificate .now)) (x .n) (l .v) 0 (x .n) (omega arith) (omega arith) (l .inv .1), omega arith)
 
 pub put-facts-spec : {M : Type 1} → statement M
 put-facts-spec =

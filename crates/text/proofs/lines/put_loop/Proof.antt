@@ -2,9 +2,9 @@
 -- Assumes nothing.
 use mathlib.Core.Path.{ap}
 use mathlib.Core.List.{_++_}
-use Prim.Native.Nat.{ℕ}
+use Prim.Native.Nat.{ℕ, _-_}
 use native.Mathlib.Omega.{arith}
-use Rattle.text.specs.Text.{decimal, newline, spaced}
+use Rattle.text.specs.Text.{decimal, newline, pieces, spaced}
 use Rattle.text.proofs.Decimal.{decimal-short}
 use Rattle.text.proofs.Pieces.{put-then, put-as}
 use borrow.Author.Needs.{needs}
@@ -25,8 +25,8 @@ wide-requires c κs = search needs
 
 put-number-requires : tie.Need-put-number-requires
 put-number-requires c κs =
-    let spaced = c .before .before .before .before .before .put-spaced .ensures in
-    (omega (arith, decimal-short 4 (c .wide .result) (omega arith), spaced .1), omega (arith, spaced .0 .long))
+    let rest = c .before .before .before .before .before .put-spaced .ensures in
+    (omega (arith, decimal-short 4 (c .wide .result) (omega arith), rest .1), omega (arith, rest .0 .long))
 
 same-length : tie.Need-same-length
 same-length c = search needs
@@ -36,7 +36,9 @@ returns c =
     let x = c .before .before .before .before .before .before .before .before .before .before .before .before .before .before .before .before .args in
     let number = c .before .before .put-number .ensures in
     let rest = c .before .before .before .before .before .before .before .before .put-spaced .ensures in (
-      put-as (ap (λ (k : ℕ). decimal k ++ (spaced (x .scratch .now) (x .more) 1 ++ newline)) (c .before .before .before .wide .ensures .0))
+      put-as
+          (ap (λ (k : ℕ). decimal k ++ (pieces (spaced (x .scratch .now)) (x .size - 1) 1 ++ newline))
+          (c .before .before .before .wide .ensures .0))
           (put-then (put-then (c .before .before .before .before .before .before .before .before .before .before .before .before .put-byte .ensures) (rest .0)) number),
       omega (arith, decimal-short 4 (c .before .before .before .wide .result) (omega arith), number .start, rest .1),
     )
