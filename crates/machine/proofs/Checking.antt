@@ -1,0 +1,73 @@
+-- The checks of stimuli, step by step, and what holds of a list that passes them.
+-- Assumes nothing.
+use mathlib.Core.Path.{_≡_, refl, sym, ap, _∙_}
+use mathlib.Core.Bool.{Bool, true, false, not, _&&_, _||_, and-false}
+use mathlib.Core.List.{List, [], _∷_}
+use mathlib.Core.Option.{some}
+use Prim.Native.Nat.{ℕ, zero, suc, _+_, _-_, _*_, _/_, _%_, _^_, _<_, _≤_}
+use native.Mathlib.Nat.{sub-zero}
+use native.Mathlib.Omega.{arith}
+use borrow.Author.Tests.{lt-ltb, le-ltb}
+use lib.Dec.{leb, ltb}
+use lib.ListN.{length, List·getD-eq-default}
+use Rattle.net.specs.declared.Stimulus.{Stimulus}
+use Rattle.net.specs.declared.Stimulus.the-variants.{Poke, Tick}
+use Rattle.circuit.specs.declared.record.InputKind.{InputKind}
+use Rattle.circuit.specs.declared.record.Record.the-variants.{Input}
+use Rattle.circuit.specs.declared.refusal.Ground.{Ground}
+use Rattle.circuit.specs.declared.refusal.Ground.the-variants.{NotAnInput, PokeTooWide, FixedInput}
+use Rattle.circuit.specs.declared.refusal.Check.{Check}
+use Rattle.circuit.specs.declared.refusal.Check.the-variants.{Passed, Refused}
+use Rattle.circuit.specs.declared.stimulus.ReadStimulus.the-variants.{Read}
+use Rattle.circuit.specs.Refusal.{refuse}
+use Rattle.circuit.specs.Record.{inputOf}
+use Rattle.circuit.specs.Circuit.{Circuit, recordOf}
+use Rattle.circuit.specs.Stimuli.{stimulusOf, isInput, fixedToOther, readStimulus, checkStimulus, checkStimuliFrom}
+
+-- ---- one stimulus
+
+-- a kind other than 0 reads as a tick
+pub tick-kind : (kind v x : ℕ) → (kind ≡ 0 → ⊥) → Tick ≡ stimulusOf kind v x
+tick-kind kind v x ne =
+    let past : 1 ≤ kind = omega arith in
+    sym (List·getD-eq-default (Poke v x ∷ []) Tick past)
+
+module _ (c : Circuit) (v x i : ℕ) where
+  pub poke-past : length c ≤ v → Refused NotAnInput i ≡ checkStimulus c (Read (Poke v x)) i
+  poke-past h = rw (le-ltb v (length c) h)
+
+  pub poke-other : isInput (inputOf (recordOf c v)) ≡ false → Refused NotAnInput i ≡ checkStimulus c (Read (Poke v x)) i
+  poke-other e = rw (e, and-false (ltb v (length c)))
+
+  pub poke-input : v < length c → (w : ℕ) (k : InputKind) → recordOf c v ≡ Input w k
+      → refuse PokeTooWide i (leb (2 ^ w) x) (refuse FixedInput i (fixedToOther (some k) x) Passed)
+      ≡ checkStimulus c (Read (Poke v x)) i
+  poke-input h w k e = rw (lt-ltb v (length c) h, e)
+
+-- ---- the list, from stimulus i on
+
+module _ (c : Circuit) (s : List ℕ) (count : ℕ) where
+  pub each-start : checkStimuliFrom c s count 0 ≡ checkStimuliFrom c s (count - 0) 0
+  each-start = rw sub-zero
+
+  module _ (i : ℕ) where
+    left : i < count → count - i ≡ suc (count - (i + 1))
+    left h = omega arith
+
+    pub each-more : i < count → checkStimulus c (readStimulus s (i * 8)) i ≡ Passed
+        → checkStimuliFrom c s (count - i) i ≡ checkStimuliFrom c s (count - (i + 1)) (i + 1)
+    unfolding checkStimuliFrom
+    each-more h e = rw (left h, e)
+
+    pub each-refused : i < count → (ground : Ground) (place : ℕ)
+        → checkStimulus c (readStimulus s (i * 8)) i ≡ Refused ground place
+        → checkStimuliFrom c s (count - i) i ≡ Refused ground place
+    unfolding checkStimuliFrom
+    each-refused h ground place e = rw (left h, e)
+
+    pub each-end : count ≤ i → checkStimuliFrom c s (count - i) i ≡ Passed
+    unfolding checkStimuliFrom
+    each-end h = rw none
+      where
+        none : count - i ≡ 0
+        none = omega arith

@@ -1,0 +1,5 @@
+pub mod Records
+pub mod Checking
+pub mod Evaluation
+pub mod Holding
+pub mod Settling
