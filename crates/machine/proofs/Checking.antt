@@ -1,22 +1,20 @@
 -- The checks of stimuli, step by step, and what holds of a list that passes them.
 -- Assumes nothing.
-use mathlib.Core.Path.{_≡_, refl, sym, ap, _∙_}
-use mathlib.Core.Bool.{Bool, true, false, not, _&&_, _||_, and-false}
+use mathlib.Core.Path.{_≡_, sym}
+use mathlib.Core.Bool.{false, and-false}
 use mathlib.Core.List.{List, [], _∷_}
 use mathlib.Core.Option.{some}
-use Prim.Native.Nat.{ℕ, zero, suc, _+_, _-_, _*_, _/_, _%_, _^_, _<_, _≤_}
+use Prim.Native.Nat.{ℕ, suc, _+_, _-_, _*_, _^_, _<_, _≤_}
 use native.Mathlib.Nat.{sub-zero}
 use native.Mathlib.Omega.{arith}
 use borrow.Author.Tests.{lt-ltb, le-ltb}
 use lib.Dec.{leb, ltb}
 use lib.ListN.{length, List·getD-eq-default}
-use Rattle.net.specs.declared.Stimulus.{Stimulus}
 use Rattle.net.specs.declared.Stimulus.the-variants.{Poke, Tick}
 use Rattle.circuit.specs.declared.record.InputKind.{InputKind}
 use Rattle.circuit.specs.declared.record.Record.the-variants.{Input}
 use Rattle.circuit.specs.declared.refusal.Ground.{Ground}
 use Rattle.circuit.specs.declared.refusal.Ground.the-variants.{NotAnInput, PokeTooWide, FixedInput}
-use Rattle.circuit.specs.declared.refusal.Check.{Check}
 use Rattle.circuit.specs.declared.refusal.Check.the-variants.{Passed, Refused}
 use Rattle.circuit.specs.declared.stimulus.ReadStimulus.the-variants.{Read}
 use Rattle.circuit.specs.Refusal.{refuse}
@@ -36,7 +34,8 @@ module _ (c : Circuit) (v x i : ℕ) where
   pub poke-past : length c ≤ v → Refused NotAnInput i ≡ checkStimulus c (Read (Poke v x)) i
   poke-past h = rw (le-ltb v (length c) h)
 
-  pub poke-other : isInput (inputOf (recordOf c v)) ≡ false → Refused NotAnInput i ≡ checkStimulus c (Read (Poke v x)) i
+  pub poke-other : isInput (inputOf (recordOf c v)) ≡ false → Refused NotAnInput i ≡ checkStimulus c
+      (Read (Poke v x)) i
   poke-other e = rw (e, and-false (ltb v (length c)))
 
   pub poke-input : v < length c → (w : ℕ) (k : InputKind) → recordOf c v ≡ Input w k

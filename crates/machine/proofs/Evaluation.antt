@@ -1,12 +1,11 @@
 -- What a variable's record gives, from the numbers that its operands hold.
 -- Assumes nothing.
-use mathlib.Core.Path.{_≡_, sym, ap, _∙_}
+use mathlib.Core.Path.{_≡_}
 use mathlib.Core.List.{List}
 use Prim.Native.Nat.{ℕ, _%_, _^_}
 use lib.ListN.{getD}
 use Rattle.circuit.specs.declared.operator.Operator as operator
 use Rattle.circuit.specs.declared.record.InputKind.{InputKind}
-use Rattle.circuit.specs.declared.record.Record.{Record}
 use Rattle.circuit.specs.declared.record.Record.the-variants.{Input, Constant, Operator, Multiplexer, Register}
 use Rattle.circuit.specs.Operator.{operatorCode, resultOfCode}
 use Rattle.circuit.specs.Circuit.{Circuit, recordOf}

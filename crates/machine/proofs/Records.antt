@@ -4,14 +4,12 @@
 use mathlib.Core.Path.{_≡_, sym, _∙_, subst}
 use mathlib.Core.List.{List}
 use Prim.Native.Nat.{ℕ, _*_, _<_, _≤_}
-use native.Mathlib.Omega.{arith}
 use lib.Dec.{T}
 use Rattle.net.specs.Tests.{member}
 use Rattle.net.proofs.Bools.{member-1, member-2, member-3}
 use Rattle.circuit.specs.declared.operator.Operator as operator
-use Rattle.circuit.specs.declared.record.InputKind.{InputKind}
 use Rattle.circuit.specs.declared.record.Record.{Record}
-use Rattle.circuit.specs.declared.record.Record.the-variants.{Input, Constant, Operator, Multiplexer, Register}
+use Rattle.circuit.specs.declared.record.Record.the-variants.{Operator, Multiplexer, Register}
 use Rattle.circuit.specs.declared.refusal.Check.the-variants.{Passed}
 use Rattle.circuit.specs.Record.{width, uses}
 use Rattle.circuit.specs.Reading.{fieldsAt, decode}
@@ -37,7 +35,11 @@ module _ (t : List ℕ) (n v : ℕ) (h : v < n) (r : Record) (e : r ≡ decode (
     operator-uses w op a b q = (used _ q a (member-1 _ _), used _ q b (member-2 _ _ _))
 
     pub multiplexer-uses : (w a b c : ℕ) → r ≡ Multiplexer w a b c → (a < n) × (b < n) × (c < n)
-    multiplexer-uses w a b c q = (used _ q a (member-1 _ _), used _ q b (member-2 _ _ _), used _ q c (member-3 _ _ _ _))
+    multiplexer-uses w a b c q = (
+      used _ q a (member-1 _ _),
+      used _ q b (member-2 _ _ _),
+      used _ q c (member-3 _ _ _ _),
+    )
 
     pub register-uses : (w a k : ℕ) → r ≡ Register w a k → a < n
     register-uses w a k q = used _ q a (member-1 _ _)

@@ -2,5 +2,8 @@
 // one number a variable, in a buffer that the caller lends; the order of the wires, and what a tick stages, stand in
 // the lent scratch.
 mod checks;
+mod halves;
 mod pass;
+mod run;
 mod stimulus;
+mod tick;

@@ -1,4 +1,4 @@
-// Passes over the state: what inputs and registers hold at power-on, and the wires along their order.
+// Passes over the state: what inputs and registers hold at power-on, the wires along their order, and both.
 ghost use mathlib.Core.Path.{_≡_};
 ghost use Prim.Native.Nat.{_*_, _≤_, _<_};
 ghost use lib.ListN.{length, take};
@@ -19,7 +19,7 @@ use circuit::record::initial_value;
 use circuit::table::record_at;
 
 // What inputs and registers hold at power-on; wires hold 0 until they settle.
-pub fn write_initial(t: &[u8], n: usize, values: &mut [u32])
+fn write_initial(t: &[u8], n: usize, values: &mut [u32])
     requires { ⌜ (n * 16 ≤ length (now t)) × (n ≤ length (now values)) ⌝ }
     ensures { λ _. ⌜ Holds n (λ v. definition.initial (recordOf (circuit (now (t .entry)) n) v))
         (now (values .entry)) (now (values .exit)) ⌝ }
@@ -67,4 +67,16 @@ pub fn settle(t: &[u8], n: usize, scratch: &[u16], wires: usize, values: &mut [u
         values[v] = x;
         i += 1;
     }
+}
+
+// The state at power-on.
+pub fn power_on(t: &[u8], n: usize, scratch: &[u16], wires: usize, values: &mut [u32])
+    requires { ⌜ (n * 16 ≤ length (now t)) × (n ≤ length (now values)) × (wires ≤ length (now scratch)) ⌝ }
+    requires { ⌜ checkRecords (now t) n ≡ Passed ⌝ }
+    requires { ⌜ Ordered (circuit (now t) n) (take wires (now scratch)) ⌝ }
+    ensures { λ _. ⌜ Holds n (definition.powerOn (circuit (now (t .entry)) n))
+        (now (values .entry)) (now (values .exit)) ⌝ }
+{
+    write_initial(t, n, values);
+    settle(t, n, scratch, wires, values);
 }

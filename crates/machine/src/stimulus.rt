@@ -55,8 +55,11 @@ pub fn read_stimulus(s: &[u8], at: usize) -> ReadStimulus
     requires { ⌜ at + 8 ≤ length (now s) ⌝ }
     ensures { λ r. ⌜ r ≡ readStimulus (now (s .entry)) at ⌝ }
 {
-    if bad_stimulus(s[at], s[at + 1], u16_at(s, at + 2), u32_at(s, at + 4)) {
+    let kind = s[at];
+    let v = u16_at(s, at + 2);
+    let x = u32_at(s, at + 4);
+    if bad_stimulus(kind, s[at + 1], v, x) {
         return ReadStimulus::Refused(Ground::BadStimulus);
     }
-    ReadStimulus::Read(stimulus_at(s, at))
+    ReadStimulus::Read(stimulus_of(kind, v, x))
 }

@@ -12,7 +12,8 @@ use Rattle.machine.proofs.checks.check_each.Statement.{statement}
 use Rattle.machine.proofs.checks.check_each.Tie as tie
 
 abbrev Inv-loop : tie.InvT-loop
-Inv-loop t n s count i₀ i = (i ≤ count) × (checkStimuliFrom (circuit t n) s count 0 ≡ checkStimuliFrom (circuit t n) s (count - i) i)
+Inv-loop t n s count i₀ i = (i ≤ count) ×
+    (checkStimuliFrom (circuit t n) s count 0 ≡ checkStimuliFrom (circuit t n) s (count - i) i)
 
 abbrev μ-loop : tie.MeasureT-loop
 μ-loop t n s count i₀ i = count - i
@@ -45,7 +46,8 @@ returns c =
     c .enum-told2 .given .1
     ∙ sym (c .before .before .before .before .before .loop .inv .1
     ∙ each-refused C (x .s .now) (x .count) i (c .before .before .before .before .loop-test .taken) _ _
-    (ap (λ (r : ReadStimulus). checkStimulus C r i) (sym (c .before .before .before .read-stimulus .ensures)) ∙ sym (c .before .before .check-stimulus .ensures) ∙ c .enum-told2 .given .1))
+    (ap (λ (r : ReadStimulus). checkStimulus C r i) (sym (c .before .before .before .read-stimulus .ensures)) ∙ sym
+    (c .before .before .check-stimulus .ensures) ∙ c .enum-told2 .given .1))
 
 add-i : tie.Need-add-i Inv-loop μ-loop
 add-i c = omega arith
@@ -61,13 +63,15 @@ loop-again c =
       omega arith,
       c .before .before .before .before .before .loop .inv .1
           ∙ each-more C (x .s .now) (x .count) i (c .before .before .before .before .loop-test .taken)
-          (ap (λ (r : ReadStimulus). checkStimulus C r i) (sym (c .before .before .before .read-stimulus .ensures)) ∙ sym (c .before .before .check-stimulus .ensures) ∙ c .enum-told .given .1),
+          (ap (λ (r : ReadStimulus). checkStimulus C r i) (sym (c .before .before .before .read-stimulus .ensures))
+          ∙ sym (c .before .before .check-stimulus .ensures) ∙ c .enum-told .given .1),
     )
 
 returns-2 : tie.Need-returns-2 Inv-loop μ-loop
 returns-2 c =
     let x = c .before .before .before .before .args in
-    sym (c .before .loop .inv .1 ∙ each-end (circuit (x .t .now) (x .n)) (x .s .now) (x .count) (c .before .loop .i) (c .loop-test .left))
+    sym (c .before .loop .inv .1 ∙ each-end (circuit (x .t .now) (x .n)) (x .s .now) (x .count) (c .before .loop .i)
+    (c .loop-test .left))
 
 pub check-each-spec : {M : Type 1} → statement M
 check-each-spec =

@@ -16,7 +16,8 @@ use Rattle.machine.proofs.checks.check_poke.Tie as tie
 returns : tie.Need-returns
 returns c =
     let x = c .before .before .args in
-    poke-past (circuit (x .t .now) (x .n)) (x .v) (x .x) (x .i) (omega (arith, circuit-length (x .t .now) (x .n), c .if1 .taken))
+    poke-past (circuit (x .t .now) (x .n)) (x .v) (x .x) (x .i)
+    (omega (arith, circuit-length (x .t .now) (x .n), c .if1 .taken))
 
 record-at-requires : tie.Need-record-at-requires
 record-at-requires c κs = search needs
@@ -27,7 +28,9 @@ enum-known-r c = search needs
 check-value-requires : tie.Need-check-value-requires
 check-value-requires c κs =
     let x = c .before .before .before .before .before .before .args in
-    width-here (x .t .now) (x .n) (x .v) (c .before .before .before .before .if1 .left) (c .before .before .before .record-at .result) (c .before .before .before .record-at .ensures) (c .before .before .before .before .before .before .pre .1) _ (c .before .r .given .1)
+    width-here (x .t .now) (x .n) (x .v) (c .before .before .before .before .if1 .left)
+    (c .before .before .before .record-at .result) (c .before .before .before .record-at .ensures)
+    (c .before .before .before .before .before .before .pre .1) _ (c .before .r .given .1)
 
 enum-told : tie.Need-enum-told
 enum-told c = search needs
@@ -45,32 +48,43 @@ returns-2 : tie.Need-returns-2
 returns-2 c =
     let x = c .before .before .before .before .before .before .before .args in
     c .check-value .ensures
-    ∙ poke-input (circuit (x .t .now) (x .n)) (x .v) (x .x) (x .i) (omega (arith, circuit-length (x .t .now) (x .n), c .before .before .before .before .before .if1 .left)) _ _
-    (record-here (x .t .now) (x .n) (x .v) (c .before .before .before .before .before .if1 .left) (c .before .before .before .before .record-at .result) (c .before .before .before .before .record-at .ensures) _ (c .before .before .r .given .1))
+    ∙ poke-input (circuit (x .t .now) (x .n)) (x .v) (x .x) (x .i)
+    (omega (arith, circuit-length (x .t .now) (x .n), c .before .before .before .before .before .if1 .left)) _ _
+    (record-here (x .t .now) (x .n) (x .v) (c .before .before .before .before .before .if1 .left)
+    (c .before .before .before .before .record-at .result) (c .before .before .before .before .record-at .ensures) _
+    (c .before .before .r .given .1))
 
 returns-3 : tie.Need-returns-3
 returns-3 c =
     let x = c .before .before .before .before .before .args in
     poke-other (circuit (x .t .now) (x .n)) (x .v) (x .x) (x .i)
-    (ap (λ (r : Record). isInput (inputOf r)) (record-here (x .t .now) (x .n) (x .v) (c .before .before .before .if1 .left) (c .before .before .record-at .result) (c .before .before .record-at .ensures) _ (c .enum-told .given .1)))
+    (ap (λ (r : Record). isInput (inputOf r))
+    (record-here (x .t .now) (x .n) (x .v) (c .before .before .before .if1 .left)
+    (c .before .before .record-at .result) (c .before .before .record-at .ensures) _ (c .enum-told .given .1)))
 
 returns-4 : tie.Need-returns-4
 returns-4 c =
     let x = c .before .before .before .before .before .args in
     poke-other (circuit (x .t .now) (x .n)) (x .v) (x .x) (x .i)
-    (ap (λ (r : Record). isInput (inputOf r)) (record-here (x .t .now) (x .n) (x .v) (c .before .before .before .if1 .left) (c .before .before .record-at .result) (c .before .before .record-at .ensures) _ (c .enum-told2 .given .1)))
+    (ap (λ (r : Record). isInput (inputOf r))
+    (record-here (x .t .now) (x .n) (x .v) (c .before .before .before .if1 .left)
+    (c .before .before .record-at .result) (c .before .before .record-at .ensures) _ (c .enum-told2 .given .1)))
 
 returns-5 : tie.Need-returns-5
 returns-5 c =
     let x = c .before .before .before .before .before .args in
     poke-other (circuit (x .t .now) (x .n)) (x .v) (x .x) (x .i)
-    (ap (λ (r : Record). isInput (inputOf r)) (record-here (x .t .now) (x .n) (x .v) (c .before .before .before .if1 .left) (c .before .before .record-at .result) (c .before .before .record-at .ensures) _ (c .enum-told3 .given .1)))
+    (ap (λ (r : Record). isInput (inputOf r))
+    (record-here (x .t .now) (x .n) (x .v) (c .before .before .before .if1 .left)
+    (c .before .before .record-at .result) (c .before .before .record-at .ensures) _ (c .enum-told3 .given .1)))
 
 returns-6 : tie.Need-returns-6
 returns-6 c =
     let x = c .before .before .before .before .before .args in
     poke-other (circuit (x .t .now) (x .n)) (x .v) (x .x) (x .i)
-    (ap (λ (r : Record). isInput (inputOf r)) (record-here (x .t .now) (x .n) (x .v) (c .before .before .before .if1 .left) (c .before .before .record-at .result) (c .before .before .record-at .ensures) _ (c .enum-told4 .given .1)))
+    (ap (λ (r : Record). isInput (inputOf r))
+    (record-here (x .t .now) (x .n) (x .v) (c .before .before .before .if1 .left)
+    (c .before .before .record-at .result) (c .before .before .record-at .ensures) _ (c .enum-told4 .given .1)))
 
 pub check-poke-spec : {M : Type 1} → statement M
 check-poke-spec =

@@ -5,6 +5,9 @@ use borrow.Author.Needs.{needs}
 use Rattle.machine.proofs.checks.check_stimulus.Statement.{statement}
 use Rattle.machine.proofs.checks.check_stimulus.Tie as tie
 
+-- Ground 14 keeps its place; a tick passes; a poke is checked.
+-- Assumes nothing.
+
 enum-known-read : tie.Need-enum-known-read
 enum-known-read c = search needs
 
@@ -30,7 +33,10 @@ returns-2 : tie.Need-returns-2
 returns-2 c = search needs
 
 returns-3 : tie.Need-returns-3
-returns-3 c = c .check-poke .ensures ∙ rw (c .before .before .before .before .before .before .read2 .given .1, c .before .before .before .stimulus .given .1, c .before .wide .ensures .0)
+returns-3 c =
+    let read = c .before .before .before .before .before .before .read2 .given .1 in
+    let stimulus = c .before .before .before .stimulus .given .1 in
+    c .check-poke .ensures ∙ rw (read, stimulus, c .before .wide .ensures .0)
 
 pub check-stimulus-spec : {M : Type 1} → statement M
 check-stimulus-spec =

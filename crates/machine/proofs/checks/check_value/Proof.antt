@@ -21,7 +21,13 @@ enum-known-kind c = search needs
 returns-2 : tie.Need-returns-2
 returns-2 c =
     let x = c .before .before .before .before .before .before .args in
-    rw (lt-leb (2 ^ x .w) (x .x) (subst (λ (m : ℕ). x .x < m) (c .before .before .before .before .before .power .ensures) (c .before .before .before .before .if1 .left)), c .before .before .kind .given .1, ne-eqb _ _ (c .if2 .taken))
+    rw (
+      lt-leb (2 ^ x .w) (x .x)
+          (subst (λ (m : ℕ). x .x < m) (c .before .before .before .before .before .power .ensures)
+          (c .before .before .before .before .if1 .left)),
+      c .before .before .kind .given .1,
+      ne-eqb _ _ (c .if2 .taken),
+    )
 
 enum-told : tie.Need-enum-told
 enum-told c = search needs
@@ -32,17 +38,33 @@ enum-told-2 c = search needs
 returns-3 : tie.Need-returns-3
 returns-3 c =
     let x = c .before .before .before .before .before .before .args in
-    rw (lt-leb (2 ^ x .w) (x .x) (subst (λ (m : ℕ). x .x < m) (c .before .before .before .before .before .power .ensures) (c .before .before .before .before .if1 .left)), c .before .before .kind .given .1, eq-eqb _ _ (c .if2 .left))
+    rw (
+      lt-leb (2 ^ x .w) (x .x)
+          (subst (λ (m : ℕ). x .x < m) (c .before .before .before .before .before .power .ensures)
+          (c .before .before .before .before .if1 .left)),
+      c .before .before .kind .given .1,
+      eq-eqb _ _ (c .if2 .left),
+    )
 
 returns-4 : tie.Need-returns-4
 returns-4 c =
     let x = c .before .before .before .before .args in
-    rw (lt-leb (2 ^ x .w) (x .x) (subst (λ (m : ℕ). x .x < m) (c .before .before .before .power .ensures) (c .before .before .if1 .left)), c .enum-told .given .1)
+    rw (
+      lt-leb (2 ^ x .w) (x .x)
+          (subst (λ (m : ℕ). x .x < m) (c .before .before .before .power .ensures)
+          (c .before .before .if1 .left)),
+      c .enum-told .given .1,
+    )
 
 returns-5 : tie.Need-returns-5
 returns-5 c =
     let x = c .before .before .before .before .args in
-    rw (lt-leb (2 ^ x .w) (x .x) (subst (λ (m : ℕ). x .x < m) (c .before .before .before .power .ensures) (c .before .before .if1 .left)), c .enum-told2 .given .1)
+    rw (
+      lt-leb (2 ^ x .w) (x .x)
+          (subst (λ (m : ℕ). x .x < m) (c .before .before .before .power .ensures)
+          (c .before .before .if1 .left)),
+      c .enum-told2 .given .1,
+    )
 
 pub check-value-spec : {M : Type 1} → statement M
 check-value-spec =

@@ -9,6 +9,9 @@ use borrow.Author.Needs.{needs}
 use Rattle.machine.proofs.pass.record_value.Statement.{statement}
 use Rattle.machine.proofs.pass.record_value.Tie as tie
 
+-- What the record gives by its kind, on the numbers that are read at its operands.
+-- Assumes nothing.
+
 record-at-requires : tie.Need-record-at-requires
 record-at-requires c κs = search needs
 
@@ -38,12 +41,14 @@ mul-evaluate c = search needs
 
 shared-slice-read-evaluate : tie.Need-shared-slice-read-evaluate
 shared-slice-read-evaluate c =
-    let x = c .before .before .before .before .before .before .before .before .before .args in
-    let p = c .before .before .before .before .before .before .before .before .before .pre in
-    let r = c .before .before .before .before .before .before .record-at in
+    let read = c .before .before .before .before .before .before in
+    let x = read .before .before .before .args in
+    let p = read .before .before .before .pre in
+    let r = read .record-at in
     omega (
       arith,
-      operator-uses (x .t .now) (x .n) (x .v) (p .0 .2) (r .result) (r .ensures) (p .1) _ _ _ _ (c .before .before .before .before .r2 .given .1) .0,
+      operator-uses (x .t .now) (x .n) (x .v) (p .0 .2) (r .result) (r .ensures) (p .1) _ _ _ _
+          (c .before .before .before .before .r2 .given .1) .0,
       c .before .wide .ensures .0,
     )
 
@@ -55,21 +60,25 @@ mul-evaluate-2 c = search needs
 
 shared-slice-read-evaluate-2 : tie.Need-shared-slice-read-evaluate-2
 shared-slice-read-evaluate-2 c =
-    let x = c .before .before .before .before .before .before .before .before .before .before .before .args in
-    let p = c .before .before .before .before .before .before .before .before .before .before .before .pre in
-    let r = c .before .before .before .before .before .before .before .before .record-at in
+    let read = c .before .before .before .before .before .before .before .before in
+    let x = read .before .before .before .args in
+    let p = read .before .before .before .pre in
+    let r = read .record-at in
     omega (
       arith,
-      operator-uses (x .t .now) (x .n) (x .v) (p .0 .2) (r .result) (r .ensures) (p .1) _ _ _ _ (c .before .before .before .before .before .before .r2 .given .1) .1,
+      operator-uses (x .t .now) (x .n) (x .v) (p .0 .2) (r .result) (r .ensures) (p .1) _ _ _ _
+          (c .before .before .before .before .before .before .r2 .given .1) .1,
       c .before .wide2 .ensures .0,
     )
 
 evaluate-requires : tie.Need-evaluate-requires
 evaluate-requires c κs =
-    let x = c .before .before .before .before .before .before .before .before .before .before .before .args in
-    let p = c .before .before .before .before .before .before .before .before .before .before .before .pre in
-    let r = c .before .before .before .before .before .before .before .before .record-at in
-    width-here (x .t .now) (x .n) (x .v) (p .0 .2) (r .result) (r .ensures) (p .1) _ (c .before .before .before .before .before .before .r2 .given .1)
+    let read = c .before .before .before .before .before .before .before .before in
+    let x = read .before .before .before .args in
+    let p = read .before .before .before .pre in
+    let r = read .record-at in
+    width-here (x .t .now) (x .n) (x .v) (p .0 .2) (r .result) (r .ensures) (p .1) _
+    (c .before .before .before .before .before .before .r2 .given .1)
 
 enum-known-r-3 : tie.Need-enum-known-r-3
 enum-known-r-3 c = search needs
@@ -82,12 +91,14 @@ mul-multiplex c = search needs
 
 shared-slice-read-multiplex : tie.Need-shared-slice-read-multiplex
 shared-slice-read-multiplex c =
-    let x = c .before .before .before .before .before .before .before .before .args in
-    let p = c .before .before .before .before .before .before .before .before .pre in
-    let r = c .before .before .before .before .before .record-at in
+    let read = c .before .before .before .before .before in
+    let x = read .before .before .before .args in
+    let p = read .before .before .before .pre in
+    let r = read .record-at in
     omega (
       arith,
-      multiplexer-uses (x .t .now) (x .n) (x .v) (p .0 .2) (r .result) (r .ensures) (p .1) _ _ _ _ (c .before .before .before .r3 .given .1) .0,
+      multiplexer-uses (x .t .now) (x .n) (x .v) (p .0 .2) (r .result) (r .ensures) (p .1) _ _ _ _
+          (c .before .before .before .r3 .given .1) .0,
       c .before .wide3 .ensures .0,
     )
 
@@ -99,12 +110,14 @@ mul-multiplex-2 c = search needs
 
 shared-slice-read-multiplex-2 : tie.Need-shared-slice-read-multiplex-2
 shared-slice-read-multiplex-2 c =
-    let x = c .before .before .before .before .before .before .before .before .before .before .args in
-    let p = c .before .before .before .before .before .before .before .before .before .before .pre in
-    let r = c .before .before .before .before .before .before .before .record-at in
+    let read = c .before .before .before .before .before .before .before in
+    let x = read .before .before .before .args in
+    let p = read .before .before .before .pre in
+    let r = read .record-at in
     omega (
       arith,
-      multiplexer-uses (x .t .now) (x .n) (x .v) (p .0 .2) (r .result) (r .ensures) (p .1) _ _ _ _ (c .before .before .before .before .before .r3 .given .1) .1,
+      multiplexer-uses (x .t .now) (x .n) (x .v) (p .0 .2) (r .result) (r .ensures) (p .1) _ _ _ _
+          (c .before .before .before .before .before .r3 .given .1) .1,
       c .before .wide4 .ensures .0,
     )
 
@@ -116,21 +129,25 @@ mul-multiplex-3 c = search needs
 
 shared-slice-read-multiplex-3 : tie.Need-shared-slice-read-multiplex-3
 shared-slice-read-multiplex-3 c =
-    let x = c .before .before .before .before .before .before .before .before .before .before .before .before .args in
-    let p = c .before .before .before .before .before .before .before .before .before .before .before .before .pre in
-    let r = c .before .before .before .before .before .before .before .before .before .record-at in
+    let read = c .before .before .before .before .before .before .before .before .before in
+    let x = read .before .before .before .args in
+    let p = read .before .before .before .pre in
+    let r = read .record-at in
     omega (
       arith,
-      multiplexer-uses (x .t .now) (x .n) (x .v) (p .0 .2) (r .result) (r .ensures) (p .1) _ _ _ _ (c .before .before .before .before .before .before .before .r3 .given .1) .2,
+      multiplexer-uses (x .t .now) (x .n) (x .v) (p .0 .2) (r .result) (r .ensures) (p .1) _ _ _ _
+          (c .before .before .before .before .before .before .before .r3 .given .1) .2,
       c .before .wide5 .ensures .0,
     )
 
 multiplex-requires : tie.Need-multiplex-requires
 multiplex-requires c κs =
-    let x = c .before .before .before .before .before .before .before .before .before .before .before .before .args in
-    let p = c .before .before .before .before .before .before .before .before .before .before .before .before .pre in
-    let r = c .before .before .before .before .before .before .before .before .before .record-at in
-    width-here (x .t .now) (x .n) (x .v) (p .0 .2) (r .result) (r .ensures) (p .1) _ (c .before .before .before .before .before .before .before .r3 .given .1)
+    let read = c .before .before .before .before .before .before .before .before .before in
+    let x = read .before .before .before .args in
+    let p = read .before .before .before .pre in
+    let r = read .record-at in
+    width-here (x .t .now) (x .n) (x .v) (p .0 .2) (r .result) (r .ensures) (p .1) _
+    (c .before .before .before .before .before .before .before .r3 .given .1)
 
 enum-known-r-4 : tie.Need-enum-known-r-4
 enum-known-r-4 c = search needs
@@ -143,61 +160,80 @@ mul-remainder c = search needs
 
 shared-slice-read-remainder : tie.Need-shared-slice-read-remainder
 shared-slice-read-remainder c =
-    let x = c .before .before .before .before .before .before .before .before .args in
-    let p = c .before .before .before .before .before .before .before .before .pre in
-    let r = c .before .before .before .before .before .record-at in
+    let read = c .before .before .before .before .before in
+    let x = read .before .before .before .args in
+    let p = read .before .before .before .pre in
+    let r = read .record-at in
     omega (
       arith,
-      register-uses (x .t .now) (x .n) (x .v) (p .0 .2) (r .result) (r .ensures) (p .1) _ _ _ (c .before .before .before .r4 .given .1),
+      register-uses (x .t .now) (x .n) (x .v) (p .0 .2) (r .result) (r .ensures) (p .1) _ _ _
+          (c .before .before .before .r4 .given .1),
       c .before .wide6 .ensures .0,
     )
 
 remainder-requires : tie.Need-remainder-requires
 remainder-requires c κs =
-    let x = c .before .before .before .before .before .before .before .before .args in
-    let p = c .before .before .before .before .before .before .before .before .pre in
-    let r = c .before .before .before .before .before .record-at in
-    width-here (x .t .now) (x .n) (x .v) (p .0 .2) (r .result) (r .ensures) (p .1) _ (c .before .before .before .r4 .given .1)
+    let read = c .before .before .before .before .before in
+    let x = read .before .before .before .args in
+    let p = read .before .before .before .pre in
+    let r = read .record-at in
+    width-here (x .t .now) (x .n) (x .v) (p .0 .2) (r .result) (r .ensures) (p .1) _
+    (c .before .before .before .r4 .given .1)
 
 returns : tie.Need-returns
 returns c =
-    let x = c .before .before .before .before .before .before .args in
-    let r = c .before .before .before .record-at in
+    let read = c .before .before .before in
+    let x = read .before .before .before .args in
+    let p = read .before .before .before .pre in
+    let r = read .record-at in
     input-value (circuit (x .t .now) (x .n)) (x .v) (x .values .now) _ _
-    (record-here (x .t .now) (x .n) (x .v) (c .before .before .before .before .before .before .pre .0 .2) (r .result) (r .ensures) _ (c .before .enum-told .given .1))
+    (record-here (x .t .now) (x .n) (x .v) (p .0 .2) (r .result) (r .ensures) _ (c .before .enum-told .given .1))
 
 returns-2 : tie.Need-returns-2
 returns-2 c =
-    let x = c .before .before .before .before .before .before .args in
-    let r = c .before .before .before .record-at in
+    let read = c .before .before .before in
+    let x = read .before .before .before .args in
+    let p = read .before .before .before .pre in
+    let r = read .record-at in
     constant-value (circuit (x .t .now) (x .n)) (x .v) (x .values .now) _ _
-    (record-here (x .t .now) (x .n) (x .v) (c .before .before .before .before .before .before .pre .0 .2) (r .result) (r .ensures) _ (c .before .r .given .1))
+    (record-here (x .t .now) (x .n) (x .v) (p .0 .2) (r .result) (r .ensures) _ (c .before .r .given .1))
 
 returns-3 : tie.Need-returns-3
 returns-3 c =
-    let x = c .before .before .before .before .before .before .before .before .before .before .before .before .args in
-    let r = c .before .before .before .before .before .before .before .before .before .record-at in
+    let read = c .before .before .before .before .before .before .before .before .before in
+    let x = read .before .before .before .args in
+    let p = read .before .before .before .pre in
+    let r = read .record-at in
     c .evaluate .ensures
     ∙ operator-value (circuit (x .t .now) (x .n)) (x .v) (x .values .now) _ _ _ _
-    (record-here (x .t .now) (x .n) (x .v) (c .before .before .before .before .before .before .before .before .before .before .before .before .pre .0 .2) (r .result) (r .ensures) _ (c .before .before .before .before .before .before .before .r2 .given .1))
-    _ _ _ (c .before .before .before .before .before .operator-code .ensures) (c .before .before .before .before .wide .ensures .0) (c .before .before .wide2 .ensures .0)
+    (record-here (x .t .now) (x .n) (x .v) (p .0 .2) (r .result) (r .ensures) _
+    (c .before .before .before .before .before .before .before .r2 .given .1))
+    _ _ _ (c .before .before .before .before .before .operator-code .ensures)
+    (c .before .before .before .before .wide .ensures .0) (c .before .before .wide2 .ensures .0)
 
 returns-4 : tie.Need-returns-4
 returns-4 c =
-    let x = c .before .before .before .before .before .before .before .before .before .before .before .before .before .args in
-    let r = c .before .before .before .before .before .before .before .before .before .before .record-at in
+    let read = c .before .before .before .before .before .before .before .before .before .before in
+    let x = read .before .before .before .args in
+    let p = read .before .before .before .pre in
+    let r = read .record-at in
     c .multiplex .ensures
     ∙ multiplexer-value (circuit (x .t .now) (x .n)) (x .v) (x .values .now) _ _ _ _
-    (record-here (x .t .now) (x .n) (x .v) (c .before .before .before .before .before .before .before .before .before .before .before .before .before .pre .0 .2) (r .result) (r .ensures) _ (c .before .before .before .before .before .before .before .before .r3 .given .1))
-    _ _ _ (c .before .before .before .before .before .before .wide3 .ensures .0) (c .before .before .before .before .wide4 .ensures .0) (c .before .before .wide5 .ensures .0)
+    (record-here (x .t .now) (x .n) (x .v) (p .0 .2) (r .result) (r .ensures) _
+    (c .before .before .before .before .before .before .before .before .r3 .given .1))
+    _ _ _ (c .before .before .before .before .before .before .wide3 .ensures .0)
+    (c .before .before .before .before .wide4 .ensures .0) (c .before .before .wide5 .ensures .0)
 
 returns-5 : tie.Need-returns-5
 returns-5 c =
-    let x = c .before .before .before .before .before .before .before .before .before .args in
-    let r = c .before .before .before .before .before .before .record-at in
+    let read = c .before .before .before .before .before .before in
+    let x = read .before .before .before .args in
+    let p = read .before .before .before .pre in
+    let r = read .record-at in
     c .remainder .ensures
     ∙ register-value (circuit (x .t .now) (x .n)) (x .v) (x .values .now) _ _ _
-    (record-here (x .t .now) (x .n) (x .v) (c .before .before .before .before .before .before .before .before .before .pre .0 .2) (r .result) (r .ensures) _ (c .before .before .before .before .r4 .given .1))
+    (record-here (x .t .now) (x .n) (x .v) (p .0 .2) (r .result) (r .ensures) _
+    (c .before .before .before .before .r4 .given .1))
     _ (c .before .before .wide6 .ensures .0)
 
 pub record-value-spec : {M : Type 1} → statement M

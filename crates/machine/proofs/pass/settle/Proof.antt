@@ -1,27 +1,27 @@
 -- The loop's invariant: the first i wires have taken their values. The measure is what is left of the order.
 -- Assumes nothing.
-use mathlib.Core.Path.{_≡_, subst}
-use Prim.Native.Nat.{ℕ, _-_, _≤_}
+use Prim.Native.Nat.{_-_, _≤_}
 use native.Mathlib.Omega.{arith}
 use lib.ListN.{take}
-use Rattle.net.specs.Net as net
-use Rattle.circuit.specs.Circuit.{circuit, graph}
-use Rattle.circuit.specs.Machine as machine
-use Rattle.circuit.proofs.Tables.{circuit-length, circuit-inside}
-use Rattle.machine.specs.State.{state, Holds}
-use Rattle.machine.proofs.Settling.{Passed-wires, none-passed, wire-below, one-passed, all-passed}
+use Rattle.circuit.specs.Circuit.{circuit}
+use Rattle.schedule.proofs.Standing.{wire-below}
+use Rattle.machine.proofs.Settling.{Passed-wires, none-passed, one-passed, all-passed}
 use borrow.Author.Needs.{needs}
 use Rattle.machine.proofs.pass.settle.Statement.{statement}
 use Rattle.machine.proofs.pass.settle.Tie as tie
 
+-- The loop's invariant: the first i wires have taken their values. The measure is what is left of the order.
+-- Assumes nothing.
+
 abbrev Inv-loop : tie.InvT-loop
-Inv-loop t n scratch wires values₀ i₀ values i = (i ≤ wires) × Passed-wires (circuit t n) (take wires scratch) values₀ values i
+Inv-loop t n scratch wires values₀ i₀ values i = (i ≤ wires) × Passed-wires (circuit t n) n
+    (take wires scratch) values₀ values i
 
 abbrev μ-loop : tie.MeasureT-loop
 μ-loop t n scratch wires values₀ i₀ values i = wires - i
 
 loop-holds : tie.Need-loop-holds Inv-loop μ-loop
-loop-holds c = (search needs, none-passed _ _ _)
+loop-holds c = (search needs, none-passed _ _ _ _)
 
 mul-wide : tie.Need-mul-wide Inv-loop μ-loop
 mul-wide c = omega arith
@@ -37,9 +37,10 @@ record-value-requires c κs =
     let x = c .before .before .before .before .before .before .before .before .args in
     let p = c .before .before .before .before .before .before .before .before .pre in
     let below =
-    wire-below (circuit (x .t .now) (x .n)) (x .scratch .now) (x .wires) (p .0 .2) (p .1 .1) (c .before .before .before .before .loop .i) (c .before .wide .result)
+    wire-below (x .t .now) (x .n) (x .scratch .now) (x .wires) (c .before .before .before .before .loop .i)
+    (c .before .wide .result) (p .0 .2) (p .1 .1)
     (c .before .before .before .loop-test .taken) (c .before .wide .ensures .0) in
-    ((p .0 .0, omega (arith, c .before .before .before .before .loop .inv .1 .kept .long), omega (arith, below, circuit-length (x .t .now) (x .n))), p .1 .0)
+    ((p .0 .0, omega (arith, c .before .before .before .before .loop .inv .1 .kept .long), below), p .1 .0)
 
 mul-values : tie.Need-mul-values Inv-loop μ-loop
 mul-values c = omega (arith, c .before .before .wide .ensures .1)
@@ -49,9 +50,10 @@ slice-write-values c =
     let x = c .before .before .before .before .before .before .before .before .before .args in
     let p = c .before .before .before .before .before .before .before .before .before .pre in
     let below =
-    wire-below (circuit (x .t .now) (x .n)) (x .scratch .now) (x .wires) (p .0 .2) (p .1 .1) (c .before .before .before .before .before .loop .i) (c .before .before .wide .result)
+    wire-below (x .t .now) (x .n) (x .scratch .now) (x .wires) (c .before .before .before .before .before .loop .i)
+    (c .before .before .wide .result) (p .0 .2) (p .1 .1)
     (c .before .before .before .before .loop-test .taken) (c .before .before .wide .ensures .0) in
-    omega (arith, below, circuit-length (x .t .now) (x .n), c .before .before .before .before .before .loop .inv .1 .kept .long)
+    omega (arith, below, c .before .before .before .before .before .loop .inv .1 .kept .long)
 
 add-i : tie.Need-add-i Inv-loop μ-loop
 add-i c = omega arith
@@ -64,9 +66,13 @@ loop-again c =
     let x = c .before .before .before .before .before .before .before .before .before .args in
     let p = c .before .before .before .before .before .before .before .before .before .pre in (
       omega arith,
-      one-passed (circuit (x .t .now) (x .n)) (x .scratch .now) (x .wires) (p .0 .2) (p .1 .1) (x .values .now) (c .before .before .before .before .before .loop .values) (c .before .before .before .before .before .loop .i)
-          (c .before .before .before .before .before .loop .inv .1) (c .before .before .wide .result) (c .record-value .result) (c .before .before .before .before .loop-test .taken) (c .before .before .wide .ensures .0)
-          (omega (arith, circuit-length (x .t .now) (x .n))) (c .record-value .ensures),
+      one-passed (x .t .now) (x .n) (x .scratch .now) (x .wires) (p .0 .2) (p .1 .1) (x .values .now)
+          (c .before .before .before .before .before .loop .values)
+          (c .before .before .before .before .before .loop .i)
+          (c .before .before .before .before .before .loop .inv .1) (c .before .before .wide .result)
+          (c .record-value .result) (c .before .before .before .before .loop-test .taken)
+          (c .before .before .wide .ensures .0)
+          (p .0 .1) (c .record-value .ensures),
     )
 
 same-length : tie.Need-same-length Inv-loop μ-loop
@@ -76,11 +82,9 @@ returns : tie.Need-returns Inv-loop μ-loop
 returns c =
     let x = c .before .before .before .before .before .args in
     let p = c .before .before .before .before .before .pre in
-    let C = circuit (x .t .now) (x .n) in
-    subst (λ (k : ℕ). Holds k (net.settle (graph C) (machine.values C) (state (x .values .now))) (x .values .now) (c .before .loop .values))
-    (circuit-length (x .t .now) (x .n))
-    (all-passed C (x .scratch .now) (x .wires) (p .0 .2) (p .1 .1) (x .values .now) (c .before .loop .values) (c .before .loop .i)
-    (c .before .loop .inv .1) (circuit-inside (x .t .now) (x .n) (p .1 .0)) (omega arith) (c .before .loop .inv .0))
+    all-passed (x .t .now) (x .n) (x .scratch .now) (x .wires) (p .0 .2) (p .1 .1) (x .values .now)
+    (c .before .loop .values) (c .before .loop .i)
+    (c .before .loop .inv .1) (p .1 .0) (omega arith) (c .before .loop .inv .0)
 
 pub settle-spec : {M : Type 1} → statement M
 settle-spec =

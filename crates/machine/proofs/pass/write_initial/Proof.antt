@@ -45,9 +45,12 @@ loop-again c =
     let x = c .before .before .before .before .before .before .args in
     let i = c .before .before .before .loop .i in (
       omega arith,
-      filled-more 0 i i _ (λ v. initial (recordOf (circuit (x .t .now) (x .n)) v)) (x .values .now) (c .before .before .before .loop .values)
+      filled-more 0 i i _ (λ v. initial (recordOf (circuit (x .t .now) (x .n)) v)) (x .values .now)
+          (c .before .before .before .loop .values)
           (omega arith) (omega (arith, c .before .before .before .loop .inv .1 .long))
-          (c .initial-value .ensures ∙ ap initial (c .before .record-at .ensures ∙ sym (circuit-record (x .t .now) (x .n) i (c .before .before .loop-test .taken))))
+          (c .initial-value .ensures ∙ ap initial
+          (c .before .record-at .ensures ∙ sym
+          (circuit-record (x .t .now) (x .n) i (c .before .before .loop-test .taken))))
           (c .before .before .before .loop .inv .1),
     )
 
@@ -59,7 +62,8 @@ returns c =
     let x = c .before .before .before .before .args in
     let all : c .before .loop .i ≡ x .n = omega arith in
     filled-holds
-    (subst (λ (k : ℕ). Filled 0 k (λ v. initial (recordOf (circuit (x .t .now) (x .n)) v)) (x .values .now) (c .before .loop .values)) all
+    (subst (λ (k : ℕ). Filled 0 k (λ v. initial (recordOf (circuit (x .t .now) (x .n)) v)) (x .values .now)
+    (c .before .loop .values)) all
     (c .before .loop .inv .1))
 
 pub write-initial-spec : {M : Type 1} → statement M

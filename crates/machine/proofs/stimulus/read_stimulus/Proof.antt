@@ -1,21 +1,19 @@
 -- Ground 14, or the stimulus.
 -- Assumes nothing.
-use mathlib.Core.Path.{_≡_, sym, ap, _∙_}
+use mathlib.Core.Path.{_≡_, sym, ap, ap₂, _∙_}
 use mathlib.Core.Bool.{true, false}
+use lib.ListN.{getD}
 use Rattle.circuit.specs.declared.stimulus.ReadStimulus.the-variants.{Read}
-use Rattle.circuit.specs.Stimuli.{badStimulus}
+use Rattle.circuit.specs.Stimuli.{stimulusOf, badStimulus}
 use borrow.Author.Needs.{needs}
 use Rattle.machine.proofs.stimulus.read_stimulus.Statement.{statement}
 use Rattle.machine.proofs.stimulus.read_stimulus.Tie as tie
 
-shared-slice-read-bad-stimulus : tie.Need-shared-slice-read-bad-stimulus
-shared-slice-read-bad-stimulus c = search needs
+-- Ground 14, or the stimulus.
+-- Assumes nothing.
 
-add-bad-stimulus : tie.Need-add-bad-stimulus
-add-bad-stimulus c = search needs
-
-shared-slice-read-bad-stimulus-2 : tie.Need-shared-slice-read-bad-stimulus-2
-shared-slice-read-bad-stimulus-2 c = search needs
+shared-slice-read-kind : tie.Need-shared-slice-read-kind
+shared-slice-read-kind c = search needs
 
 add-u16-at : tie.Need-add-u16-at
 add-u16-at c = search needs
@@ -29,6 +27,12 @@ add-u32-at c = search needs
 u32-at-requires : tie.Need-u32-at-requires
 u32-at-requires c κs = search needs
 
+add-bad-stimulus : tie.Need-add-bad-stimulus
+add-bad-stimulus c = search needs
+
+shared-slice-read-bad-stimulus : tie.Need-shared-slice-read-bad-stimulus
+shared-slice-read-bad-stimulus c = search needs
+
 bad-stimulus-requires : tie.Need-bad-stimulus-requires
 bad-stimulus-requires c κs = search needs
 
@@ -36,31 +40,41 @@ returns : tie.Need-returns
 returns c =
     let x = c .before .before .before .before .before .before .before .args in
     let bad : badStimulus (x .s .now) (x .at) ≡ true =
-    rw (sym (c .before .before .before .u16-at .ensures), sym (c .before .before .u32-at .ensures)) (sym (c .before .bad-stimulus .ensures) ∙ c .if1 .taken) in
+    rw (sym (c .before .before .before .before .u16-at .ensures), sym (c .before .before .before .u32-at .ensures))
+    (sym (c .before .bad-stimulus .ensures) ∙ c .if1 .taken) in
     rw bad
 
-stimulus-at-requires : tie.Need-stimulus-at-requires
-stimulus-at-requires c κs = search needs
+stimulus-of-requires : tie.Need-stimulus-of-requires
+stimulus-of-requires c κs = search needs
 
 returns-2 : tie.Need-returns-2
 returns-2 c =
     let x = c .before .before .before .before .before .before .before .before .args in
     let good : badStimulus (x .s .now) (x .at) ≡ false =
-    rw (sym (c .before .before .before .before .u16-at .ensures), sym (c .before .before .before .u32-at .ensures)) (sym (c .before .before .bad-stimulus .ensures) ∙ c .before .if1 .left) in
-    rw good (ap Read (c .stimulus-at .ensures))
+    rw (
+      sym (c .before .before .before .before .before .u16-at .ensures),
+      sym
+          (c .before .before .before .before .u32-at .ensures),
+    )
+    (sym (c .before .before .bad-stimulus .ensures) ∙ c .before .if1 .left) in
+    rw good
+    (ap Read
+    (c .stimulus-of .ensures
+    ∙ ap₂ (stimulusOf (getD (x .s .now) (x .at) 0)) (c .before .before .before .before .before .u16-at .ensures)
+    (c .before .before .before .before .u32-at .ensures)))
 
 pub read-stimulus-spec : {M : Type 1} → statement M
 read-stimulus-spec =
     tie.close
     (tie.spec
-    shared-slice-read-bad-stimulus
-    add-bad-stimulus
-    shared-slice-read-bad-stimulus-2
+    shared-slice-read-kind
     add-u16-at
     u16-at-requires
     add-u32-at
     u32-at-requires
+    add-bad-stimulus
+    shared-slice-read-bad-stimulus
     bad-stimulus-requires
     returns
-    stimulus-at-requires
+    stimulus-of-requires
     returns-2)

@@ -10,6 +10,9 @@ use Rattle.machine.proofs.stimulus.stimulus_at.Tie as tie
 -- The stimulus of the kind, the variable and the value that stand there.
 -- Assumes nothing.
 
+-- The stimulus of the kind, the variable and the value that stand there.
+-- Assumes nothing.
+
 shared-slice-read-stimulus-of : tie.Need-shared-slice-read-stimulus-of
 shared-slice-read-stimulus-of c = search needs
 
@@ -29,7 +32,10 @@ stimulus-of-requires : tie.Need-stimulus-of-requires
 stimulus-of-requires c κs = search needs
 
 returns : tie.Need-returns
-returns c = c .stimulus-of .ensures ∙ ap₂ (stimulusOf (getD (c .before .before .before .before .before .args .s .now) (c .before .before .before .before .before .args .at) 0)) (c .before .before .u16-at .ensures) (c .before .u32-at .ensures)
+returns c =
+    let x = c .before .before .before .before .before .args in
+    c .stimulus-of .ensures
+    ∙ ap₂ (stimulusOf (getD (x .s .now) (x .at) 0)) (c .before .before .u16-at .ensures) (c .before .u32-at .ensures)
 
 pub stimulus-at-spec : {M : Type 1} → statement M
 stimulus-at-spec =
