@@ -8,7 +8,7 @@ use lib.ListN.{length, set}
 use Rattle.net.specs.declared.Stimulus.{Stimulus}
 use Rattle.net.specs.declared.Stimulus.the-variants.{Poke, Tick}
 use Rattle.net.specs.Net.{settle, step, round}
-use Rattle.net.specs.Machine.{act}
+use Rattle.net.specs.Machine.{act, run}
 use Rattle.net.proofs.Settle.{Ranked, settle-agree}
 use Rattle.circuit.specs.declared.refusal.Check.the-variants.{Passed}
 use Rattle.circuit.specs.Circuit.{Circuit, circuit, recordOf, graph}
@@ -23,6 +23,7 @@ use Rattle.schedule.proofs.Orders.{ordered-ranked}
 use Rattle.schedule.proofs.Standing.{order-kept, listed-kept}
 use Rattle.machine.specs.State.{state, Holds}
 use Rattle.machine.specs.Ready.{Ready}
+use Rattle.machine.proofs.Agreement.{values-agree, run-agree}
 use Rattle.machine.proofs.Holding.{kept-set, set-put, holds-then}
 
 -- the same stimulus by another name
@@ -61,6 +62,16 @@ module _ (t : List ℕ) (n : ℕ) (valid : checkRecords t n ≡ Passed) {order :
       ≡ settle (graph (circuit t n)) (machine.values (circuit t n)) s v
   settle-held {s} values h v l =
       settle-agree ranked (machine.values (circuit t n)) (values-local (circuit t n)) (state values) s
+      (λ u k. h u (omega (arith, circuit-length t n))) v (omega (arith, circuit-length t n))
+
+  -- and so do lists of stimuli lead on
+  pub run-held : (xs : List Stimulus) {s : ℕ → ℕ} (values : List ℕ) → ((v : ℕ) → v < n → state values v ≡ s v)
+      → (v : ℕ) → v < n
+      → run (graph (circuit t n)) (machine.values (circuit t n)) xs (state values) v
+      ≡ run (graph (circuit t n)) (machine.values (circuit t n)) xs s v
+  run-held xs {s} values h v l =
+      run-agree ranked (machine.values (circuit t n)) (values-local (circuit t n))
+      (values-agree (circuit t n) (circuit-inside t n valid)) xs (state values) s
       (λ u k. h u (omega (arith, circuit-length t n))) v (omega (arith, circuit-length t n))
 
   module _ {entry stored exit : List ℕ}

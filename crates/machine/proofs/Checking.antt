@@ -1,17 +1,18 @@
 -- The checks of stimuli, step by step, and what holds of a list that passes them.
 -- Assumes nothing.
-use mathlib.Core.Path.{_≡_, sym}
+use mathlib.Core.Path.{_≡_, sym, subst}
 use mathlib.Core.Bool.{false, and-false}
 use mathlib.Core.List.{List, [], _∷_}
 use mathlib.Core.Option.{some}
 use Prim.Native.Nat.{ℕ, suc, _+_, _-_, _*_, _^_, _<_, _≤_}
 use native.Mathlib.Nat.{sub-zero}
 use native.Mathlib.Omega.{arith}
-use borrow.Author.Tests.{lt-ltb, le-ltb}
+use borrow.Author.Tests.{lt-ltb, le-ltb, lt-leb}
 use lib.Dec.{leb, ltb}
 use lib.ListN.{length, List·getD-eq-default}
 use Rattle.net.specs.declared.Stimulus.the-variants.{Poke, Tick}
 use Rattle.circuit.specs.declared.record.InputKind.{InputKind}
+use Rattle.circuit.specs.declared.record.Record.{Record}
 use Rattle.circuit.specs.declared.record.Record.the-variants.{Input}
 use Rattle.circuit.specs.declared.refusal.Ground.{Ground}
 use Rattle.circuit.specs.declared.refusal.Ground.the-variants.{NotAnInput, PokeTooWide, FixedInput}
@@ -19,8 +20,11 @@ use Rattle.circuit.specs.declared.refusal.Check.the-variants.{Passed, Refused}
 use Rattle.circuit.specs.declared.stimulus.ReadStimulus.the-variants.{Read}
 use Rattle.circuit.specs.Refusal.{refuse}
 use Rattle.circuit.specs.Record.{inputOf}
-use Rattle.circuit.specs.Circuit.{Circuit, recordOf}
+use Rattle.circuit.specs.Reading.{fieldsAt, decode}
+use Rattle.circuit.specs.Circuit.{Circuit, circuit}
 use Rattle.circuit.specs.Stimuli.{stimulusOf, isInput, fixedToOther, readStimulus, checkStimulus, checkStimuliFrom}
+use Rattle.circuit.proofs.Tables.{circuit-length}
+use Rattle.machine.proofs.Records.{record-here}
 
 -- ---- one stimulus
 
@@ -30,18 +34,23 @@ tick-kind kind v x ne =
     let past : 1 ≤ kind = omega arith in
     sym (List·getD-eq-default (Poke v x ∷ []) Tick past)
 
-module _ (c : Circuit) (v x i : ℕ) where
-  pub poke-past : length c ≤ v → Refused NotAnInput i ≡ checkStimulus c (Read (Poke v x)) i
-  poke-past h = rw (le-ltb v (length c) h)
+-- 2^w, computed, and a value that is below it
+pub value-fits : (power w x : ℕ) → power ≡ 2 ^ w → x < power → leb (2 ^ w) x ≡ false
+value-fits power w x e h = lt-leb (2 ^ w) x (subst (λ (m : ℕ). x < m) e h)
 
-  pub poke-other : isInput (inputOf (recordOf c v)) ≡ false → Refused NotAnInput i ≡ checkStimulus c
-      (Read (Poke v x)) i
-  poke-other e = rw (e, and-false (ltb v (length c)))
+pub poke-past : (t : List ℕ) (n v x i : ℕ) → n ≤ v
+    → Refused NotAnInput i ≡ checkStimulus (circuit t n) (Read (Poke v x)) i
+poke-past t n v x i h = rw (circuit-length t n, le-ltb v n h)
 
-  pub poke-input : v < length c → (w : ℕ) (k : InputKind) → recordOf c v ≡ Input w k
+module _ (t : List ℕ) (n v x i : ℕ) (h : v < n) (r : Record) (e : r ≡ decode (fieldsAt t (v * 16))) where
+  pub poke-other : (y : Record) → r ≡ y → isInput (inputOf y) ≡ false
+      → Refused NotAnInput i ≡ checkStimulus (circuit t n) (Read (Poke v x)) i
+  poke-other y q other = rw (record-here t n v h r e y q, other, and-false (ltb v (length (circuit t n))))
+
+  pub poke-input : (w : ℕ) (k : InputKind) → r ≡ Input w k
       → refuse PokeTooWide i (leb (2 ^ w) x) (refuse FixedInput i (fixedToOther (some k) x) Passed)
-      ≡ checkStimulus c (Read (Poke v x)) i
-  poke-input h w k e = rw (lt-ltb v (length c) h, e)
+      ≡ checkStimulus (circuit t n) (Read (Poke v x)) i
+  poke-input w k q = rw (circuit-length t n, lt-ltb v n h, record-here t n v h r e (Input w k) q)
 
 -- ---- the list, from stimulus i on
 

@@ -20,15 +20,14 @@ use Rattle.circuit.specs.Checks.{checkRecords}
 use Rattle.circuit.specs.Machine as machine
 use Rattle.circuit.specs.Stimuli.{stimulusAt, stimuli}
 use Rattle.circuit.proofs.Tables.{circuit-length, circuit-inside}
-use Rattle.circuit.proofs.Values.{values-local}
 use Rattle.schedule.specs.Schedule.{Ordered}
 use Rattle.schedule.specs.Scratch.{Kept, KeptOutside}
 use Rattle.schedule.proofs.Filled.{kept-none, kept-trans, outside-none, outside-trans}
 use Rattle.machine.specs.State.{state, Holds}
 use Rattle.machine.specs.Ready.{Ready}
 use Rattle.machine.proofs.Holding.{holds-then}
-use Rattle.machine.proofs.Agreement.{values-agree, run-agree, machine-settled}
-use Rattle.machine.proofs.Acting.{ranked, ready-kept}
+use Rattle.machine.proofs.Agreement.{values-agree, machine-settled}
+use Rattle.machine.proofs.Acting.{ready-kept, ranked, run-held}
 
 -- ---- the list from stimulus i on
 
@@ -71,9 +70,8 @@ none-ran {t} {n} {scratch} s values r =
 module _ {t : List ℕ} {n : ℕ} {s : List ℕ} {wires registers : ℕ} {scratch₀ values₀ scratch values : List ℕ} {i : ℕ}
     (p : Ran t n s wires registers scratch₀ values₀ scratch values i) where
   pub one-ran : {scratch′ values′ : List ℕ} → i < length s / 8 → KeptOutside (n + n) (n * 4) scratch scratch′
-      → Holds n (act (graph (circuit t n)) (machine.values (circuit t n)) (stimulusAt s (i * 8))
-      (state values)) values
-      values′
+      → Holds n (act (graph (circuit t n)) (machine.values (circuit t n)) (stimulusAt s (i * 8)) (state values))
+      values values′
       → Ran t n s wires registers scratch₀ values₀ scratch′ values′ (i + 1)
   unfolding run
   one-ran {scratch′} {values′} h kept acted =
@@ -82,17 +80,13 @@ module _ {t : List ℕ} {n : ℕ} {s : List ℕ} {wires registers : ℕ} {scratc
         scratch-kept = outside-trans (p .scratch-kept) kept;
         kept = kept-trans (p .kept) (acted .kept);
         rest = λ v l.
-            run-agree (ranked t n (p .ready .valid) (p .ready .order)) (machine.values (circuit t n))
-            (values-local (circuit t n))
-            (values-agree (circuit t n) (circuit-inside t n (p .ready .valid))) (drop (i + 1) (stimuli s))
-            (state values′)
-            (act (graph (circuit t n)) (machine.values (circuit t n)) (stimulusAt s (i * 8)) (state values))
-            (λ u k. acted .holds u (omega (arith, circuit-length t n))) v (omega (arith, circuit-length t n))
-            ∙ ap (λ (xs : List Stimulus). run (graph (circuit t n)) (machine.values (circuit t n)) xs
-            (state values) v)
-            (sym (stimuli-next s i h))
+            run-held t n (p .ready .valid) (p .ready .order) (drop (i + 1) (stimuli s)) values′ (acted .holds) v l
+            ∙ ap (runs v) (sym (stimuli-next s i h))
             ∙ p .rest v l;
       }
+    where
+      runs : ℕ → List Stimulus → ℕ
+      runs v xs = run (graph (circuit t n)) (machine.values (circuit t n)) xs (state values) v
 
   pub all-ran : length s / 8 ≤ i → i ≤ length s / 8
       → Holds n (run (graph (circuit t n)) (machine.values (circuit t n)) (stimuli s) (state values₀)) values₀ values
@@ -119,11 +113,8 @@ pub machine-holds : (t : List ℕ) (n : ℕ) → checkRecords t n ≡ Passed →
     → Holds n (run (graph (circuit t n)) (machine.values (circuit t n)) xs (state first)) first exit
     → Holds n (machine.machine (circuit t n) xs) entry exit
 unfolding machine.machine
-machine-holds t n valid ordered {entry} {first} xs on ran =
-    holds-then (on .kept) ran
-    (λ v l. run-agree (ranked t n valid ordered) (machine.values (circuit t n)) (values-local (circuit t n))
-    (values-agree (circuit t n) (circuit-inside t n valid)) xs (state first) (machine.powerOn (circuit t n))
-    (λ u k. on .holds u (omega (arith, circuit-length t n))) v (omega (arith, circuit-length t n)))
+machine-holds t n valid ordered {first = first} xs on ran =
+    holds-then (on .kept) ran (run-held t n valid ordered xs first (on .holds))
 
 -- every wire's written number satisfies its record
 pub wires-written : (t : List ℕ) (n : ℕ) → checkRecords t n ≡ Passed → {order : List ℕ} → Ordered (circuit t n) order
@@ -132,9 +123,8 @@ pub wires-written : (t : List ℕ) (n : ℕ) → checkRecords t n ≡ Passed →
 wires-written t n valid ordered {entry} {exit} xs h v below e =
     same v below
     ∙ machine-settled (circuit t n) (ranked t n valid ordered) xs v below e
-    ∙ sym (values-agree (circuit t n) (circuit-inside t n valid) (state exit)
-    (machine.machine (circuit t n) xs) same v
-    below)
+    ∙ sym (values-agree (circuit t n) (circuit-inside t n valid) (state exit) (machine.machine (circuit t n) xs) same
+    v below)
   where
     same : Agree (graph (circuit t n)) (state exit) (machine.machine (circuit t n) xs)
     same u k = h .holds u (omega (arith, circuit-length t n))

@@ -86,37 +86,37 @@ pub record Committed (c : Circuit) (n : ℕ) (entry values : List ℕ) (j : ℕ)
   pub kept : Kept n entry values
   pub stepped : Stepped c (machine.values c) (state entry) (state values) j
 
-module _ (c : Circuit) (n : ℕ) (size : length c ≡ n) (entry : List ℕ) where
-  pub none-committed : Committed c n entry entry 0
-  none-committed =
+pub none-committed : (c : Circuit) (n : ℕ) (entry : List ℕ) → Committed c n entry entry 0
+none-committed c n entry =
+    record {
+      kept = kept-none n entry;
+      stepped = none-stepped c (machine.values c) (state entry) (state entry) (λ v. refl);
+    }
+
+module _ (c : Circuit) (n : ℕ) (size : length c ≡ n) (entry values : List ℕ) (j : ℕ)
+    (p : Committed c n entry values j) where
+  pub one-committed : (v x : ℕ) → j < length (registerList c) → v ≡ getD (registerList c) j 0 → n ≤ length entry
+      → x ≡ machine.values c (state entry) (getD (registerList c) j 0)
+      → Committed c n entry (set values v x) (j + 1)
+  one-committed v x h e room is =
       record {
-        kept = kept-none n entry;
-        stepped = none-stepped c (machine.values c) (state entry) (state entry) (λ v. refl);
+        kept = kept-set v x below (p .kept);
+        stepped =
+            one-stepped c (machine.values c) (state entry) (state values) (state (set values v x)) j (p .stepped) h
+            (ap (state (set values v x)) (sym e)
+            ∙ getD-set-same values v x 0 (omega (arith, below, p .kept .long))
+            ∙ is)
+            (λ u ne. getD-set-other values v u x 0 (λ q. ne (q ∙ e)));
       }
+    where
+      below : v < n
+      below = omega (arith, registerList-register c j h .0)
 
-  module _ (values : List ℕ) (j : ℕ) (p : Committed c n entry values j) where
-    pub one-committed : (v x : ℕ) → j < length (registerList c) → v ≡ getD (registerList c) j 0 → n ≤ length entry
-        → x ≡ machine.values c (state entry) (getD (registerList c) j 0) → Committed c n entry (set values v x)
-        (j + 1)
-    one-committed v x h e room is =
-        record {
-          kept = kept-set v x below (p .kept);
-          stepped =
-              one-stepped c (machine.values c) (state entry) (state values) (state (set values v x)) j (p .stepped) h
-              (ap (state (set values v x)) (sym e)
-              ∙ getD-set-same values v x 0 (omega (arith, below, p .kept .long))
-              ∙ is)
-              (λ u ne. getD-set-other values v u x 0 (λ q. ne (q ∙ e)));
-        }
-      where
-        below : v < n
-        below = omega (arith, registerList-register c j h .0)
-
-    pub all-committed : length (registerList c) ≤ j → j ≤ length (registerList c)
-        → Holds n (step (graph c) (machine.values c) (state entry)) entry values
-    all-committed all few =
-        record {
-          kept = p .kept;
-          holds = λ v below.
-              all-stepped c (machine.values c) (state entry) (state values) j (p .stepped) all few v (omega arith);
-        }
+  pub all-committed : length (registerList c) ≤ j → j ≤ length (registerList c)
+      → Holds n (step (graph c) (machine.values c) (state entry)) entry values
+  all-committed all few =
+      record {
+        kept = p .kept;
+        holds = λ v below.
+            all-stepped c (machine.values c) (state entry) (state values) j (p .stepped) all few v (omega arith);
+      }

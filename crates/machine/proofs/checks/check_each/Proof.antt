@@ -12,8 +12,8 @@ use Rattle.machine.proofs.checks.check_each.Statement.{statement}
 use Rattle.machine.proofs.checks.check_each.Tie as tie
 
 abbrev Inv-loop : tie.InvT-loop
-Inv-loop t n s count i₀ i = (i ≤ count) ×
-    (checkStimuliFrom (circuit t n) s count 0 ≡ checkStimuliFrom (circuit t n) s (count - i) i)
+Inv-loop t n s count i₀ i =
+    (i ≤ count) × (checkStimuliFrom (circuit t n) s count 0 ≡ checkStimuliFrom (circuit t n) s (count - i) i)
 
 abbrev μ-loop : tie.MeasureT-loop
 μ-loop t n s count i₀ i = count - i

@@ -1,13 +1,7 @@
 -- Ground 15 where there is no such variable or it is no input; else grounds 16 and 17 of the input.
 -- Assumes nothing.
-use mathlib.Core.Path.{ap, _∙_}
-use native.Mathlib.Omega.{arith}
-use Rattle.circuit.specs.declared.record.Record.{Record}
-use Rattle.circuit.specs.Record.{inputOf}
-use Rattle.circuit.specs.Circuit.{circuit}
-use Rattle.circuit.specs.Stimuli.{isInput}
-use Rattle.circuit.proofs.Tables.{circuit-length}
-use Rattle.machine.proofs.Records.{record-here, width-here}
+use mathlib.Core.Path.{refl, _∙_}
+use Rattle.machine.proofs.Records.{width-here}
 use Rattle.machine.proofs.Checking.{poke-past, poke-other, poke-input}
 use borrow.Author.Needs.{needs}
 use Rattle.machine.proofs.checks.check_poke.Statement.{statement}
@@ -16,8 +10,7 @@ use Rattle.machine.proofs.checks.check_poke.Tie as tie
 returns : tie.Need-returns
 returns c =
     let x = c .before .before .args in
-    poke-past (circuit (x .t .now) (x .n)) (x .v) (x .x) (x .i)
-    (omega (arith, circuit-length (x .t .now) (x .n), c .if1 .taken))
+    poke-past (x .t .now) (x .n) (x .v) (x .x) (x .i) (c .if1 .taken)
 
 record-at-requires : tie.Need-record-at-requires
 record-at-requires c κs = search needs
@@ -28,8 +21,8 @@ enum-known-r c = search needs
 check-value-requires : tie.Need-check-value-requires
 check-value-requires c κs =
     let x = c .before .before .before .before .before .before .args in
-    width-here (x .t .now) (x .n) (x .v) (c .before .before .before .before .if1 .left)
-    (c .before .before .before .record-at .result) (c .before .before .before .record-at .ensures)
+    let r = c .before .before .before .record-at in
+    width-here (x .t .now) (x .n) (x .v) (c .before .before .before .before .if1 .left) (r .result) (r .ensures)
     (c .before .before .before .before .before .before .pre .1) _ (c .before .r .given .1)
 
 enum-told : tie.Need-enum-told
@@ -47,44 +40,42 @@ enum-told-4 c = search needs
 returns-2 : tie.Need-returns-2
 returns-2 c =
     let x = c .before .before .before .before .before .before .before .args in
+    let r = c .before .before .before .before .record-at in
     c .check-value .ensures
-    ∙ poke-input (circuit (x .t .now) (x .n)) (x .v) (x .x) (x .i)
-    (omega (arith, circuit-length (x .t .now) (x .n), c .before .before .before .before .before .if1 .left)) _ _
-    (record-here (x .t .now) (x .n) (x .v) (c .before .before .before .before .before .if1 .left)
-    (c .before .before .before .before .record-at .result) (c .before .before .before .before .record-at .ensures) _
-    (c .before .before .r .given .1))
+    ∙ poke-input (x .t .now) (x .n) (x .v) (x .x) (x .i) (c .before .before .before .before .before .if1 .left)
+    (r .result) (r .ensures) _ _ (c .before .before .r .given .1)
 
 returns-3 : tie.Need-returns-3
 returns-3 c =
     let x = c .before .before .before .before .before .args in
-    poke-other (circuit (x .t .now) (x .n)) (x .v) (x .x) (x .i)
-    (ap (λ (r : Record). isInput (inputOf r))
-    (record-here (x .t .now) (x .n) (x .v) (c .before .before .before .if1 .left)
-    (c .before .before .record-at .result) (c .before .before .record-at .ensures) _ (c .enum-told .given .1)))
+    let r = c .before .before .record-at in
+    poke-other (x .t .now) (x .n) (x .v) (x .x) (x .i) (c .before .before .before .if1 .left) (r .result)
+    (r .ensures) _ (c .enum-told .given .1)
+    refl
 
 returns-4 : tie.Need-returns-4
 returns-4 c =
     let x = c .before .before .before .before .before .args in
-    poke-other (circuit (x .t .now) (x .n)) (x .v) (x .x) (x .i)
-    (ap (λ (r : Record). isInput (inputOf r))
-    (record-here (x .t .now) (x .n) (x .v) (c .before .before .before .if1 .left)
-    (c .before .before .record-at .result) (c .before .before .record-at .ensures) _ (c .enum-told2 .given .1)))
+    let r = c .before .before .record-at in
+    poke-other (x .t .now) (x .n) (x .v) (x .x) (x .i) (c .before .before .before .if1 .left) (r .result)
+    (r .ensures) _ (c .enum-told2 .given .1)
+    refl
 
 returns-5 : tie.Need-returns-5
 returns-5 c =
     let x = c .before .before .before .before .before .args in
-    poke-other (circuit (x .t .now) (x .n)) (x .v) (x .x) (x .i)
-    (ap (λ (r : Record). isInput (inputOf r))
-    (record-here (x .t .now) (x .n) (x .v) (c .before .before .before .if1 .left)
-    (c .before .before .record-at .result) (c .before .before .record-at .ensures) _ (c .enum-told3 .given .1)))
+    let r = c .before .before .record-at in
+    poke-other (x .t .now) (x .n) (x .v) (x .x) (x .i) (c .before .before .before .if1 .left) (r .result)
+    (r .ensures) _ (c .enum-told3 .given .1)
+    refl
 
 returns-6 : tie.Need-returns-6
 returns-6 c =
     let x = c .before .before .before .before .before .args in
-    poke-other (circuit (x .t .now) (x .n)) (x .v) (x .x) (x .i)
-    (ap (λ (r : Record). isInput (inputOf r))
-    (record-here (x .t .now) (x .n) (x .v) (c .before .before .before .if1 .left)
-    (c .before .before .record-at .result) (c .before .before .record-at .ensures) _ (c .enum-told4 .given .1)))
+    let r = c .before .before .record-at in
+    poke-other (x .t .now) (x .n) (x .v) (x .x) (x .i) (c .before .before .before .if1 .left) (r .result)
+    (r .ensures) _ (c .enum-told4 .given .1)
+    refl
 
 pub check-poke-spec : {M : Type 1} → statement M
 check-poke-spec =

@@ -5,9 +5,6 @@ use borrow.Author.Needs.{needs}
 use Rattle.machine.proofs.checks.check_stimulus.Statement.{statement}
 use Rattle.machine.proofs.checks.check_stimulus.Tie as tie
 
--- Ground 14 keeps its place; a tick passes; a poke is checked.
--- Assumes nothing.
-
 enum-known-read : tie.Need-enum-known-read
 enum-known-read c = search needs
 

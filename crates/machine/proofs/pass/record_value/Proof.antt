@@ -9,9 +9,6 @@ use borrow.Author.Needs.{needs}
 use Rattle.machine.proofs.pass.record_value.Statement.{statement}
 use Rattle.machine.proofs.pass.record_value.Tie as tie
 
--- What the record gives by its kind, on the numbers that are read at its operands.
--- Assumes nothing.
-
 record-at-requires : tie.Need-record-at-requires
 record-at-requires c κs = search needs
 

@@ -10,12 +10,9 @@ use borrow.Author.Needs.{needs}
 use Rattle.machine.proofs.pass.settle.Statement.{statement}
 use Rattle.machine.proofs.pass.settle.Tie as tie
 
--- The loop's invariant: the first i wires have taken their values. The measure is what is left of the order.
--- Assumes nothing.
-
 abbrev Inv-loop : tie.InvT-loop
-Inv-loop t n scratch wires values₀ i₀ values i = (i ≤ wires) × Passed-wires (circuit t n) n
-    (take wires scratch) values₀ values i
+Inv-loop t n scratch wires values₀ i₀ values i =
+    (i ≤ wires) × Passed-wires (circuit t n) n (take wires scratch) values₀ values i
 
 abbrev μ-loop : tie.MeasureT-loop
 μ-loop t n scratch wires values₀ i₀ values i = wires - i

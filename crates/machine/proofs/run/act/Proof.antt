@@ -17,15 +17,6 @@ use borrow.Author.Needs.{needs}
 use Rattle.machine.proofs.run.act.Statement.{statement}
 use Rattle.machine.proofs.run.act.Tie as tie
 
--- By the kind of stimulus. A poke that passed names a variable of the table.
--- Assumes nothing.
-
--- By the kind of stimulus. A poke that passed names a variable of the table.
--- Assumes nothing.
-
--- By the kind of stimulus. A poke that passed names a variable of the table.
--- Assumes nothing.
-
 enum-known-stimulus : tie.Need-enum-known-stimulus
 enum-known-stimulus c = search needs
 
@@ -34,17 +25,18 @@ wide-requires c κs = search needs
 
 poke-requires : tie.Need-poke-requires
 poke-requires c κs =
-    let x = c .before .before .before .before .before .before .before .before .before .args in
+    let start = c .before .before .before .before .before .before .before .before .before in
+    let x = start .args in
+    let p = start .pre in
+    let r = p .0 in
     let C = circuit (x .t .now) (x .n) in
     let poked =
     poke-passed C _ _ 0
     (subst (λ (y : Stimulus). checkStimulus C (Read y) 0 ≡ Passed)
-    (c .before .before .before .before .stimulus .given .1)
-    (c .before .before .before .before .before .before .before .before .before .pre .1 .1)) in
-    let r = c .before .before .before .before .before .before .before .before .before .pre .0 in (
+    (c .before .before .before .before .stimulus .given .1) (p .1 .1)) in (
       (
         r .table,
-        c .before .before .before .before .before .before .before .before .before .pre .1 .0,
+        p .1 .0,
         omega (arith, r .room, r .fits),
         omega (arith, poked .below, circuit-length (x .t .now) (x .n), c .wide .ensures .0),
       ),
@@ -68,8 +60,7 @@ returns c =
     let x = c .before .before .before .before .before .before .before .before .before .before .before .before .args in (
       outside-none _ _ _,
       act-same (circuit (x .t .now) (x .n)) (x .values .now)
-          (ap (λ (v : ℕ). Poke v
-          (c .before .before .before .before .before .before .before .stimulus .given .0 .1 .0))
+          (ap (λ (v : ℕ). Poke v (c .before .before .before .before .before .before .before .stimulus .given .0 .1 .0))
           (c .before .before .before .wide .ensures .0) ∙ sym
           (c .before .before .before .before .before .before .before .stimulus .given .1))
           (c .before .before .poke .ensures),

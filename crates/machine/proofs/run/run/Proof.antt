@@ -16,12 +16,6 @@ use borrow.Author.Needs.{needs}
 use Rattle.machine.proofs.run.run.Statement.{statement}
 use Rattle.machine.proofs.run.run.Tie as tie
 
--- The loop's invariant: the first i stimuli have acted. The measure is what is left of the list.
--- Assumes nothing.
-
--- The loop's invariant: the first i stimuli have acted. The measure is what is left of the list.
--- Assumes nothing.
-
 abbrev Inv-loop : tie.InvT-loop
 Inv-loop t n s scratch₀ wires registers values₀ count i₀ scratch values i =
     (i ≤ length s / 8) × Ran t n s wires registers scratch₀ values₀ scratch values i

@@ -9,9 +9,6 @@ use borrow.Author.Needs.{needs}
 use Rattle.machine.proofs.stimulus.read_stimulus.Statement.{statement}
 use Rattle.machine.proofs.stimulus.read_stimulus.Tie as tie
 
--- Ground 14, or the stimulus.
--- Assumes nothing.
-
 shared-slice-read-kind : tie.Need-shared-slice-read-kind
 shared-slice-read-kind c = search needs
 

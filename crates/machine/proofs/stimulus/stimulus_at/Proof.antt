@@ -7,12 +7,6 @@ use borrow.Author.Needs.{needs}
 use Rattle.machine.proofs.stimulus.stimulus_at.Statement.{statement}
 use Rattle.machine.proofs.stimulus.stimulus_at.Tie as tie
 
--- The stimulus of the kind, the variable and the value that stand there.
--- Assumes nothing.
-
--- The stimulus of the kind, the variable and the value that stand there.
--- Assumes nothing.
-
 shared-slice-read-stimulus-of : tie.Need-shared-slice-read-stimulus-of
 shared-slice-read-stimulus-of c = search needs
 

@@ -11,26 +11,15 @@ use borrow.Author.Needs.{needs}
 use Rattle.machine.proofs.tick.commit.Statement.{statement}
 use Rattle.machine.proofs.tick.commit.Tie as tie
 
--- The loop's invariant: the first j registers have their staged values. The measure is what is left of them.
--- Assumes nothing.
-
--- The loop's invariant: the first j registers have their staged values. The measure is what is left of them.
--- Assumes nothing.
-
 abbrev Inv-loop : tie.InvT-loop
-Inv-loop t n scratch wires registers values₀ j₀ values j = (j ≤ registers) × Committed
-    (circuit t n) n values₀ values j
+Inv-loop t n scratch wires registers values₀ j₀ values j =
+    (j ≤ registers) × Committed (circuit t n) n values₀ values j
 
 abbrev μ-loop : tie.MeasureT-loop
 μ-loop t n scratch wires registers values₀ j₀ values j = registers - j
 
 loop-holds : tie.Need-loop-holds Inv-loop μ-loop
-loop-holds c =
-    let x = c .before .before .before .args in (
-      search needs,
-      none-committed (circuit (x .t .now) (x .n)) (x .n) (circuit-length (x .t .now) (x .n))
-          (x .values .now),
-    )
+loop-holds c = (search needs, none-committed _ _ _)
 
 add-wide : tie.Need-add-wide Inv-loop μ-loop
 add-wide c =

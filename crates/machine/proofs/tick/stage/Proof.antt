@@ -14,12 +14,9 @@ use borrow.Author.Needs.{needs}
 use Rattle.machine.proofs.tick.stage.Statement.{statement}
 use Rattle.machine.proofs.tick.stage.Tie as tie
 
--- The loop's invariant: the first j registers are staged. The measure is what is left of them.
--- Assumes nothing.
-
 abbrev Inv-loop : tie.InvT-loop
-Inv-loop t n scratch₀ wires registers values j₀ scratch j = (j ≤ registers) × StagedSo (circuit t n) (state values)
-    (n + n) (n * 4) scratch₀ scratch j
+Inv-loop t n scratch₀ wires registers values j₀ scratch j =
+    (j ≤ registers) × StagedSo (circuit t n) (state values) (n + n) (n * 4) scratch₀ scratch j
 
 abbrev μ-loop : tie.MeasureT-loop
 μ-loop t n scratch₀ wires registers values j₀ scratch j = registers - j

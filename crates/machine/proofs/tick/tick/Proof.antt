@@ -6,15 +6,6 @@ use borrow.Author.Needs.{needs}
 use Rattle.machine.proofs.tick.tick.Statement.{statement}
 use Rattle.machine.proofs.tick.tick.Tie as tie
 
--- The registers' next values are staged and written, and the wires settle.
--- Assumes nothing.
-
--- The registers' next values are staged and written, and the wires settle.
--- Assumes nothing.
-
--- The registers' next values are staged and written, and the wires settle.
--- Assumes nothing.
-
 stage-requires : tie.Need-stage-requires
 stage-requires c κs = search needs
 
