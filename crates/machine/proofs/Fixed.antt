@@ -5,19 +5,11 @@ use mathlib.Core.Path.{_≡_, refl, sym, ap₂, _∙_}
 use mathlib.Core.Logic.{_⊎_, inl, inr}
 use mathlib.Core.List.{List}
 use Prim.Native.Nat.{ℕ}
-use Rattle.circuit.specs.declared.refusal.Ground.{Ground}
-use Rattle.circuit.specs.declared.refusal.Check.{Check}
-use Rattle.circuit.specs.declared.refusal.Check.the-variants as check
 use Rattle.schedule.specs.Call.{Buffers, buffers}
-use Rattle.schedule.proofs.Calls.{passed-refused, turned-down-alike}
+use Rattle.schedule.proofs.Calls.{passed-refused, refusal-unique, turned-down-alike}
 use Rattle.machine.specs.declared.Benched.{Benched}
 use Rattle.machine.specs.declared.Benched.the-variants.{Accepted, Refused}
 use Rattle.machine.specs.Promise.{Benches, ShowsLoop}
-
--- a check is refused on one ground, at one place
-refusal-unique : {g h : Ground} {i j : ℕ} (x : Check) → x ≡ check.Refused g i → x ≡ check.Refused h j
-    → Refused g i ≡ Refused h j
-refusal-unique x p q = cc
 
 module _ (t output scratch stimuli output₁ scratch₁ output₂ scratch₂ : List ℕ) where
   abbrev first : Buffers
@@ -46,4 +38,5 @@ module _ (t output scratch stimuli output₁ scratch₁ output₂ scratch₂ : L
   answer-fixed (Refused g i) (Refused h j) (inr (inr p)) (inl q) = absurd (passed-refused (p .passed) (q .first))
   answer-fixed (Refused g i) (Refused h j) (inr (inr p)) (inr (inl (e, q))) = absurd (p .no-loop (q .row) (q .loop))
   answer-fixed (Refused g i) (Refused h j) (inr (inr p)) (inr (inr q)) =
-      inl (refusal-unique _ (p .first) (q .first), p .output ∙ sym (q .output), p .scratch ∙ sym (q .scratch))
+      let (e, e′) = refusal-unique (p .first) (q .first) in
+      inl (ap₂ Refused e e′, p .output ∙ sym (q .output), p .scratch ∙ sym (q .scratch))
