@@ -8,3 +8,5 @@ pub mod Agreement
 pub mod Staging
 pub mod Acting
 pub mod Running
+pub mod Fixed
+pub mod Satisfied

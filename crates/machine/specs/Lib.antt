@@ -1,3 +1,4 @@
+pub mod Promise
 pub mod State
 pub mod Staging
 pub mod Ready

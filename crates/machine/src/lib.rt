@@ -1,9 +1,16 @@
-// The bench machine in code: stimuli read from their bytes, grounds 12 to 17, power-on, pokes and ticks. The state is
-// one number a variable, in a buffer that the caller lends; the order of the wires, and what a tick stages, stand in
-// the lent scratch.
+// The bench call on lent buffers: grounds 1 to 17, power-on, pokes and ticks, the state in the end. The state is one
+// number a variable, in the lent output; the order of the wires, and what a tick stages, stand in the lent scratch.
+use circuit::refusal::Ground;
+
 mod checks;
 mod halves;
 mod pass;
 mod run;
 mod stimulus;
 mod tick;
+
+// The list has run; or the ground on which the table or the list is turned down, with its place.
+pub enum Benched {
+    Accepted,
+    Refused(Ground, usize),
+}

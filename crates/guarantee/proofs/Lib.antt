@@ -1,0 +1,4 @@
+pub mod Passing
+pub mod Alike
+pub mod TwoRuns
+pub mod Witness
