@@ -21,10 +21,9 @@ use Rattle.circuit.specs.Circuit.{Circuit, circuit, recordOf}
 use Rattle.circuit.specs.Stimuli.{stimulusAt, checkStimulus, checkStimuli, stimuli}
 use Rattle.circuit.proofs.Decoding.{decode-input}
 use Rattle.circuit.proofs.Tables.{circuit-length, circuit-record}
-use Rattle.circuit.proofs.Stimuli.{poke-passed}
+use Rattle.circuit.proofs.Stimuli.{poke-passed, stimulus-passed}
 use Rattle.fact.specs.TwoRuns.{isSecret, AlikeLists}
 use Rattle.guarantee.specs.TwoRuns.{SecretInput, BothTick, BothPoke, AlikeStimuli}
-use Rattle.guarantee.proofs.Passing.{stimulus-passed}
 
 -- lists are alike where each two stimuli, put in front of alike lists, leave them alike
 alike-below : {R : ℕ → ℕ → ℕ → Type 0} (f g : ℕ → Stimulus) (n : ℕ)

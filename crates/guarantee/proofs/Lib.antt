@@ -1,4 +1,3 @@
-pub mod Passing
 pub mod Alike
 pub mod TwoRuns
 pub mod Witness

@@ -12,6 +12,7 @@ use Rattle.circuit.specs.Circuit.{Circuit, circuit}
 use Rattle.circuit.specs.Stimuli.{stimuli}
 use Rattle.circuit.proofs.Passing.{call-fits}
 use Rattle.circuit.proofs.Tables.{Inside, circuit-length, circuit-inside}
+use Rattle.circuit.proofs.Stimuli.{stimuli-accepted}
 use Rattle.fact.specs.Fact.{factAt}
 use Rattle.fact.specs.Certificate as definition
 use Rattle.fact.specs.TwoRuns.{Claims}
@@ -24,7 +25,6 @@ use Rattle.machine.specs.declared.Benched.the-variants as benched
 use Rattle.machine.specs.Promise.{Benches}
 use Rattle.machine.proofs.Satisfied.{value-written}
 use Rattle.guarantee.specs.TwoRuns.{AlikeStimuli, ClaimHolds, ClaimsHold}
-use Rattle.guarantee.proofs.Passing.{stimuli-accepted}
 use Rattle.guarantee.proofs.Alike.{lists-alike}
 
 -- what the fact in a certificate's bytes claims of two numbers, by byte 0 and bytes 4-7

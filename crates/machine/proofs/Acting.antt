@@ -10,21 +10,21 @@ use Rattle.net.specs.declared.Stimulus.the-variants.{Poke, Tick}
 use Rattle.net.specs.Net.{settle, step, round}
 use Rattle.net.specs.Machine.{act, run}
 use Rattle.net.proofs.Settle.{Ranked, settle-agree}
+use Rattle.net.proofs.Machine.{run-agree}
 use Rattle.circuit.specs.declared.refusal.Check.the-variants.{Passed}
 use Rattle.circuit.specs.Circuit.{Circuit, circuit, recordOf, graph}
 use Rattle.circuit.specs.Checks.{checkRecords}
 use Rattle.circuit.specs.Machine as machine
 use Rattle.circuit.proofs.Tables.{circuit-length, circuit-inside}
-use Rattle.circuit.proofs.Values.{values-local}
+use Rattle.circuit.proofs.Values.{values-local, values-agree}
 use Rattle.schedule.specs.Schedule.{Ordered}
 use Rattle.schedule.specs.Scratch.{KeptOutside}
-use Rattle.schedule.proofs.Filled.{kept-none}
+use Rattle.schedule.proofs.Filled.{kept-none, kept-set}
 use Rattle.schedule.proofs.Orders.{ordered-ranked}
 use Rattle.schedule.proofs.Standing.{order-kept, listed-kept}
 use Rattle.machine.specs.State.{state, Holds}
 use Rattle.machine.specs.Ready.{Ready}
-use Rattle.machine.proofs.Agreement.{values-agree, run-agree}
-use Rattle.machine.proofs.Holding.{kept-set, set-put, holds-then}
+use Rattle.machine.proofs.Holding.{set-put, holds-then}
 
 -- the same stimulus by another name
 pub act-same : (c : Circuit) {n : ℕ} (entry : List ℕ) {exit : List ℕ} {x y : Stimulus} → x ≡ y

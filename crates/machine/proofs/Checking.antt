@@ -1,13 +1,13 @@
--- The checks of stimuli, step by step, and what holds of a list that passes them.
+-- The checks of stimuli, step by step.
 -- Assumes nothing.
-use mathlib.Core.Path.{_≡_, sym, subst}
+use mathlib.Core.Path.{_≡_, sym}
 use mathlib.Core.Bool.{false, and-false}
 use mathlib.Core.List.{List, [], _∷_}
 use mathlib.Core.Option.{some}
 use Prim.Native.Nat.{ℕ, suc, _+_, _-_, _*_, _^_, _<_, _≤_}
 use native.Mathlib.Nat.{sub-zero}
 use native.Mathlib.Omega.{arith}
-use borrow.Author.Tests.{lt-ltb, le-ltb, lt-leb}
+use borrow.Author.Tests.{lt-ltb, le-ltb}
 use lib.Dec.{leb, ltb}
 use lib.ListN.{length, List·getD-eq-default}
 use Rattle.net.specs.declared.Stimulus.the-variants.{Poke, Tick}
@@ -24,7 +24,7 @@ use Rattle.circuit.specs.Reading.{fieldsAt, decode}
 use Rattle.circuit.specs.Circuit.{Circuit, circuit}
 use Rattle.circuit.specs.Stimuli.{stimulusOf, isInput, fixedToOther, readStimulus, checkStimulus, checkStimuliFrom}
 use Rattle.circuit.proofs.Tables.{circuit-length}
-use Rattle.machine.proofs.Records.{record-here}
+use Rattle.circuit.proofs.Operands.{record-here}
 
 -- ---- one stimulus
 
@@ -33,10 +33,6 @@ pub tick-kind : (kind v x : ℕ) → (kind ≡ 0 → ⊥) → Tick ≡ stimulusO
 tick-kind kind v x ne =
     let past : 1 ≤ kind = omega arith in
     sym (List·getD-eq-default (Poke v x ∷ []) Tick past)
-
--- 2^w, computed, and a value that is below it
-pub value-fits : (power w x : ℕ) → power ≡ 2 ^ w → x < power → leb (2 ^ w) x ≡ false
-value-fits power w x e h = lt-leb (2 ^ w) x (subst (λ (m : ℕ). x < m) e h)
 
 pub poke-past : (t : List ℕ) (n v x i : ℕ) → n ≤ v
     → Refused NotAnInput i ≡ checkStimulus (circuit t n) (Read (Poke v x)) i

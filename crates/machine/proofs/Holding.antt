@@ -6,7 +6,7 @@ use mathlib.Core.List.{List, _++_}
 use Prim.Native.Nat.{ℕ, _+_, _-_, _<_, _≤_}
 use native.Mathlib.Omega.{arith}
 use borrow.Author.Tests.{eq-eqb, ne-eqb}
-use lib.ListN.{length, getD, set, drop, length-set, length-append, length-drop, List·getD-append}
+use lib.ListN.{length, getD, set, drop, length-append, length-drop, List·getD-append}
 use lib.Seq.{getD-set-same, getD-set-other, getD-append-add, getD-drop, ext-getD}
 use Rattle.net.specs.Net.{listBelow}
 use Rattle.net.specs.Machine.{put}
@@ -15,14 +15,6 @@ use Rattle.schedule.specs.Scratch.{Kept, Filled}
 use Rattle.schedule.proofs.Cases.{by-same, by-le}
 use Rattle.schedule.proofs.Filled.{kept-trans, filled-kept}
 use Rattle.machine.specs.State.{state, Holds}
-
--- what lies past the first n numbers stays where one of them is stored
-pub kept-set : {n : ℕ} {entry values : List ℕ} (v x : ℕ) → v < n → Kept n entry values → Kept n entry (set values v x)
-kept-set {n} {entry} {values} v x below kept =
-    record {
-      long = length-set values v x ∙ kept .long;
-      beyond = λ i l. getD-set-other values v i x 0 (λ e. omega arith) ∙ kept .beyond i l;
-    }
 
 -- storing a number puts it into the state
 pub set-put : (values : List ℕ) (v x : ℕ) → v < length values → (u : ℕ)

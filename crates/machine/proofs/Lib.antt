@@ -1,10 +1,7 @@
-pub mod Records
 pub mod Checking
-pub mod Passing
 pub mod Evaluation
 pub mod Holding
 pub mod Settling
-pub mod Agreement
 pub mod Staging
 pub mod Acting
 pub mod Running

@@ -1,5 +1,5 @@
 -- Stimuli one after another: the invariant of the run, that it ends in the state after the whole list, and that from
--- power-on this is the machine's state, in which every wire's number satisfies its record.
+-- power-on this is the machine's state.
 -- Assumes nothing.
 use mathlib.Core.Path.{_≡_, refl, sym, ap, _∙_}
 use mathlib.Core.List.{List, [], _∷_}
@@ -10,24 +10,20 @@ use lib.ListN.{length, drop}
 use lib.Seq.{drop-cons, drop-length}
 use Rattle.net.specs.declared.Stimulus.{Stimulus}
 use Rattle.net.specs.declared.Stimulus.the-variants.{Tick}
-use Rattle.net.specs.Net.{Settled}
 use Rattle.net.specs.Machine.{act, run}
 use Rattle.net.proofs.Lists.{length-listBelow, getD-listBelow}
-use Rattle.net.proofs.Settle.{Agree}
 use Rattle.circuit.specs.declared.refusal.Check.the-variants.{Passed}
 use Rattle.circuit.specs.Circuit.{circuit, graph}
 use Rattle.circuit.specs.Checks.{checkRecords}
 use Rattle.circuit.specs.Machine as machine
 use Rattle.circuit.specs.Stimuli.{stimulusAt, stimuli}
-use Rattle.circuit.proofs.Tables.{circuit-length, circuit-inside}
 use Rattle.schedule.specs.Schedule.{Ordered}
 use Rattle.schedule.specs.Scratch.{Kept, KeptOutside}
 use Rattle.schedule.proofs.Filled.{kept-none, kept-trans, outside-none, outside-trans}
 use Rattle.machine.specs.State.{state, Holds}
 use Rattle.machine.specs.Ready.{Ready}
 use Rattle.machine.proofs.Holding.{holds-then}
-use Rattle.machine.proofs.Agreement.{values-agree, machine-settled}
-use Rattle.machine.proofs.Acting.{ready-kept, ranked, run-held}
+use Rattle.machine.proofs.Acting.{ready-kept, run-held}
 
 -- ---- the list from stimulus i on
 
@@ -48,7 +44,7 @@ module _ (s : List ℕ) where
 -- ---- the run
 
 -- the first i stimuli have acted: the others lead from here to where all lead from the start
-pub record Ran (t : List ℕ) (n : ℕ) (s : List ℕ) (wires registers : ℕ) (scratch₀ values₀ scratch values : List ℕ)
+pub record RanTo (t : List ℕ) (n : ℕ) (s : List ℕ) (wires registers : ℕ) (scratch₀ values₀ scratch values : List ℕ)
     (i : ℕ) : Type 0 where
   pub ready : Ready t n scratch wires registers
   pub scratch-kept : KeptOutside (n + n) (n * 4) scratch₀ scratch
@@ -58,7 +54,7 @@ pub record Ran (t : List ℕ) (n : ℕ) (s : List ℕ) (wires registers : ℕ) (
       ≡ run (graph (circuit t n)) (machine.values (circuit t n)) (stimuli s) (state values₀) v
 
 pub none-ran : {t : List ℕ} {n : ℕ} {scratch : List ℕ} {wires registers : ℕ} (s values : List ℕ)
-    → Ready t n scratch wires registers → Ran t n s wires registers scratch values scratch values 0
+    → Ready t n scratch wires registers → RanTo t n s wires registers scratch values scratch values 0
 none-ran {t} {n} {scratch} s values r =
     record {
       ready = r;
@@ -68,11 +64,11 @@ none-ran {t} {n} {scratch} s values r =
     }
 
 module _ {t : List ℕ} {n : ℕ} {s : List ℕ} {wires registers : ℕ} {scratch₀ values₀ scratch values : List ℕ} {i : ℕ}
-    (p : Ran t n s wires registers scratch₀ values₀ scratch values i) where
+    (p : RanTo t n s wires registers scratch₀ values₀ scratch values i) where
   pub one-ran : {scratch′ values′ : List ℕ} → i < length s / 8 → KeptOutside (n + n) (n * 4) scratch scratch′
       → Holds n (act (graph (circuit t n)) (machine.values (circuit t n)) (stimulusAt s (i * 8)) (state values))
       values values′
-      → Ran t n s wires registers scratch₀ values₀ scratch′ values′ (i + 1)
+      → RanTo t n s wires registers scratch₀ values₀ scratch′ values′ (i + 1)
   unfolding run
   one-ran {scratch′} {values′} h kept acted =
       record {
@@ -115,16 +111,3 @@ pub machine-holds : (t : List ℕ) (n : ℕ) → checkRecords t n ≡ Passed →
 unfolding machine.machine
 machine-holds t n valid ordered {first = first} xs on ran =
     holds-then (on .kept) ran (run-held t n valid ordered xs first (on .holds))
-
--- every wire's written number satisfies its record
-pub wires-written : (t : List ℕ) (n : ℕ) → checkRecords t n ≡ Passed → {order : List ℕ} → Ordered (circuit t n) order
-    → {entry exit : List ℕ} (xs : List Stimulus) → Holds n (machine.machine (circuit t n) xs) entry exit
-    → Settled (graph (circuit t n)) (machine.values (circuit t n)) (state exit)
-wires-written t n valid ordered {entry} {exit} xs h v below e =
-    same v below
-    ∙ machine-settled (circuit t n) (ranked t n valid ordered) xs v below e
-    ∙ sym (values-agree (circuit t n) (circuit-inside t n valid) (state exit) (machine.machine (circuit t n) xs) same
-    v below)
-  where
-    same : Agree (graph (circuit t n)) (state exit) (machine.machine (circuit t n) xs)
-    same u k = h .holds u (omega (arith, circuit-length t n))

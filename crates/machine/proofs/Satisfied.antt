@@ -2,47 +2,21 @@
 -- number satisfies its record.
 -- Assumes nothing.
 use mathlib.Core.Path.{_≡_, refl, sym, ap, _∙_}
-use mathlib.Core.List.{List, [], _∷_}
+use mathlib.Core.List.{List}
 use Prim.Native.Nat.{ℕ, _<_}
 use native.Mathlib.Omega.{arith}
 use lib.ListN.{length, getD, List·getD-append}
-use Rattle.net.specs.declared.Stimulus.{Stimulus}
-use Rattle.net.specs.declared.Stimulus.the-variants.{Poke, Tick}
-use Rattle.net.specs.Net.{wire, round, step, Settled, listBelow}
-use Rattle.net.specs.Machine.{put, act, run}
+use Rattle.net.specs.Net.{wire, listBelow}
 use Rattle.net.proofs.Lists.{length-listBelow, getD-listBelow}
-use Rattle.net.proofs.Settle.{Ranked}
 use Rattle.circuit.specs.Record.{role}
-use Rattle.circuit.specs.Circuit.{Circuit, recordOf, graph}
-use Rattle.circuit.specs.Machine.{values, initial, powerOn, machine}
+use Rattle.circuit.specs.Circuit.{Circuit, recordOf}
+use Rattle.circuit.specs.Machine.{values, machine}
 use Rattle.circuit.specs.Stimuli.{stimuli}
 use Rattle.circuit.proofs.Passing.{call-fits}
 use Rattle.circuit.proofs.Tables.{Inside, circuit-length, circuit-inside, circuit-ranked}
-use Rattle.circuit.proofs.Values.{values-local, wires-satisfied}
+use Rattle.circuit.proofs.Values.{values-local, machine-settled}
 use Rattle.schedule.specs.Call.{Buffers, size, circuitOf}
 use Rattle.machine.specs.Promise.{Ran}
-
--- ---- the machine's states
-
-module _ (c : Circuit) (r : Ranked (graph c)) where
-  -- a stimulus leaves every wire satisfied
-  act-settled : (x : Stimulus) (s : ℕ → ℕ) → Settled (graph c) (values c) (act (graph c) (values c) x s)
-  unfolding act round
-  act-settled (Poke i x) s = wires-satisfied c r (put s i x)
-  act-settled Tick s = wires-satisfied c r (step (graph c) (values c) s)
-
-  run-settled : (xs : List Stimulus) (s : ℕ → ℕ) → Settled (graph c) (values c) s
-      → Settled (graph c) (values c) (run (graph c) (values c) xs s)
-  unfolding run
-  run-settled [] s h = h
-  run-settled (x ∷ xs) s h = run-settled xs (act (graph c) (values c) x s) (act-settled x s)
-
-  -- after every list of stimuli each wire's value satisfies its record
-  pub machine-settled : (xs : List Stimulus) → Settled (graph c) (values c) (machine c xs)
-  unfolding machine powerOn
-  machine-settled xs = run-settled xs (powerOn c) (wires-satisfied c r (λ v. initial (recordOf c v)))
-
--- ---- the numbers written
 
 -- the number that a call leaves for a variable
 abbrev pub number : Buffers → ℕ → ℕ

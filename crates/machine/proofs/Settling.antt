@@ -15,11 +15,10 @@ use Rattle.circuit.proofs.Tables.{circuit-length, circuit-inside}
 use Rattle.circuit.proofs.Values.{values-local}
 use Rattle.schedule.specs.Schedule.{Ordered}
 use Rattle.schedule.specs.Scratch.{Kept}
-use Rattle.schedule.proofs.Filled.{kept-none}
+use Rattle.schedule.proofs.Filled.{kept-none, kept-set}
 use Rattle.schedule.proofs.Standing.{wire-at, wire-below}
 use Rattle.schedule.proofs.Along.{along, along-none, along-next, along-settle}
 use Rattle.machine.specs.State.{state, Holds}
-use Rattle.machine.proofs.Holding.{kept-set}
 
 -- the first i wires of the order have taken their values
 pub record Passed-wires (c : Circuit) (n : ℕ) (order entry values : List ℕ) (i : ℕ) : Type 0 where

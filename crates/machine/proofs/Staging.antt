@@ -14,12 +14,11 @@ use Rattle.circuit.specs.Machine as machine
 use Rattle.schedule.specs.Schedule.{registerList}
 use Rattle.schedule.specs.Scratch.{Kept, KeptOutside}
 use Rattle.schedule.proofs.Cases.{by-same}
-use Rattle.schedule.proofs.Filled.{kept-none, outside-none, outside-set, outside-trans}
+use Rattle.schedule.proofs.Filled.{kept-none, kept-set, outside-none, outside-set, outside-trans, outside-wider}
 use Rattle.schedule.proofs.Registers.{registerList-register}
 use Rattle.schedule.proofs.Together.{Stepped, none-stepped, one-stepped, all-stepped}
 use Rattle.machine.specs.State.{state, Holds}
 use Rattle.machine.specs.Staging.{numberAt, StagedTo}
-use Rattle.machine.proofs.Holding.{kept-set}
 
 -- ---- two halves of a number
 
@@ -42,16 +41,6 @@ module _ (scratch : List ℕ) (at x : ℕ) (room : at + 2 ≤ length scratch) wh
       ∙ omega arith
 
 -- ---- staging
-
--- what lies outside a region lies outside a region in it
-outside-wider : {from to from′ to′ : ℕ} {a b : List ℕ} → from ≤ from′ → to′ ≤ to → KeptOutside from′ to′ a b
-    → KeptOutside from to a b
-outside-wider low high p =
-    record {
-      long = p .long;
-      before = λ i l. p .before i (omega arith);
-      beyond = λ i l. p .beyond i (omega arith);
-    }
 
 -- the first j registers are staged from place `from` on
 pub record StagedSo (c : Circuit) (s : ℕ → ℕ) (from to : ℕ) (entry scratch : List ℕ) (j : ℕ) : Type 0 where

@@ -14,9 +14,9 @@ ghost use Rattle.circuit.specs.Checks.{checkRecords};
 ghost use Rattle.circuit.specs.Stimuli.{fixedToOther, checkStimulus, checkStimuliFrom, checkStimuli};
 use crate::stimulus::read_stimulus;
 use circuit::number::wide;
-use circuit::operator::power;
 use circuit::record::InputKind;
 use circuit::record::Record;
+use circuit::record::too_wide;
 use circuit::refusal::Check;
 use circuit::refusal::Ground;
 use circuit::stimulus::ReadStimulus;
@@ -29,7 +29,7 @@ fn check_value(w: u8, kind: InputKind, x: u32, i: usize) -> Check
     ensures { λ r. ⌜ r ≡ refuse ground.PokeTooWide i (leb (2 ^ w) x)
         (refuse ground.FixedInput i (fixedToOther (some kind) x) check.Passed) ⌝ }
 {
-    if power(w) <= x as u64 {
+    if too_wide(x, w) {
         return Check::Refused(Ground::PokeTooWide, i);
     }
     match kind {

@@ -1,7 +1,7 @@
 -- Ground 15 where there is no such variable or it is no input; else grounds 16 and 17 of the input.
 -- Assumes nothing.
 use mathlib.Core.Path.{refl, _∙_}
-use Rattle.machine.proofs.Records.{width-here}
+use Rattle.circuit.proofs.Operands.{width-here}
 use Rattle.machine.proofs.Checking.{poke-past, poke-other, poke-input}
 use borrow.Author.Needs.{needs}
 use Rattle.machine.proofs.checks.check_poke.Statement.{statement}

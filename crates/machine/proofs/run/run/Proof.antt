@@ -9,16 +9,16 @@ use Rattle.circuit.specs.declared.refusal.Check.the-variants.{Passed}
 use Rattle.circuit.specs.declared.stimulus.ReadStimulus.the-variants.{Read}
 use Rattle.circuit.specs.Circuit.{circuit}
 use Rattle.circuit.specs.Stimuli.{checkStimulus}
-use Rattle.machine.proofs.Passing.{stimulus-passed}
+use Rattle.circuit.proofs.Stimuli.{stimulus-passed}
 use Rattle.machine.proofs.Acting.{act-same}
-use Rattle.machine.proofs.Running.{Ran, none-ran, one-ran, all-ran}
+use Rattle.machine.proofs.Running.{RanTo, none-ran, one-ran, all-ran}
 use borrow.Author.Needs.{needs}
 use Rattle.machine.proofs.run.run.Statement.{statement}
 use Rattle.machine.proofs.run.run.Tie as tie
 
 abbrev Inv-loop : tie.InvT-loop
 Inv-loop t n s scratch₀ wires registers values₀ count i₀ scratch values i =
-    (i ≤ length s / 8) × Ran t n s wires registers scratch₀ values₀ scratch values i
+    (i ≤ length s / 8) × RanTo t n s wires registers scratch₀ values₀ scratch values i
 
 abbrev μ-loop : tie.MeasureT-loop
 μ-loop t n s scratch₀ wires registers values₀ count i₀ scratch values i = length s / 8 - i
