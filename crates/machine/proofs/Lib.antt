@@ -5,5 +5,6 @@ pub mod Settling
 pub mod Staging
 pub mod Acting
 pub mod Running
+pub mod Promise
 pub mod Fixed
 pub mod Satisfied
