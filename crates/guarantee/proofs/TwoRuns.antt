@@ -1,7 +1,8 @@
 -- Demand 3: a certifying call that accepts a table and two bench calls on it, both accepted, on lists that are alike.
--- What the certificate's bytes claim holds of the numbers that the bench calls write, over both lists entire.
+-- What the certificate's bytes claim holds of the numbers that the bench calls write, over both lists entire. So three
+-- calls that keep their promises guarantee it, whatever they answer.
 -- Assumes nothing.
-use mathlib.Core.Path.{_≡_, refl, sym, _∙_}
+use mathlib.Core.Path.{_≡_, refl, sym, _∙_, subst}
 use mathlib.Core.Logic.{⊎-elim}
 use mathlib.Core.List.{List}
 use Prim.Native.Nat.{ℕ, _+_, _*_, _/_, _<_}
@@ -19,12 +20,16 @@ use Rattle.fact.specs.TwoRuns.{Claims}
 use Rattle.fact.proofs.Claims.{claims-always, claims-open}
 use Rattle.fact.proofs.Certificate.{least-unique, certificate-least, two-runs-claimed}
 use Rattle.schedule.specs.Call.{Buffers, buffers}
+use Rattle.certificate.specs.declared.Certified.{Certified}
 use Rattle.certificate.specs.declared.Certified.the-variants as certified
 use Rattle.certificate.specs.Promise.{Certifies}
+use Rattle.machine.specs.declared.Benched.{Benched}
 use Rattle.machine.specs.declared.Benched.the-variants as benched
 use Rattle.machine.specs.Promise.{Benches}
 use Rattle.machine.proofs.Satisfied.{value-written}
+use Rattle.guarantee.specs.declared.Answers.{Answers}
 use Rattle.guarantee.specs.TwoRuns.{AlikeStimuli, ClaimHolds, ClaimsHold}
+use Rattle.guarantee.specs.Guarantee.{Guarantees}
 use Rattle.guarantee.proofs.Alike.{lists-alike}
 
 -- what the fact in a certificate's bytes claims of two numbers, by byte 0 and bytes 4-7
@@ -40,7 +45,7 @@ claim-holds cells values values′ v h =
         → (getD values v 0 ≡ u32At cells (v * 8 + 4)) × (getD values′ v 0 ≡ u32At cells (v * 8 + 4))
     always e = claims-always (rw e at h)
 
-module _ (t certificate scratch certificate′ scratch′ : List ℕ) (k : ℕ)
+module _ (t certificate scratch certificate′ scratch′ : List ℕ)
     (values₁ scratch₁ values₁′ scratch₁′ s₁ values₂ scratch₂ values₂′ scratch₂′ s₂ : List ℕ) where
   abbrev certifying : Buffers
   certifying = buffers t certificate scratch certificate′ scratch′
@@ -51,7 +56,7 @@ module _ (t certificate scratch certificate′ scratch′ : List ℕ) (k : ℕ)
   abbrev second : Buffers
   second = buffers t values₂ scratch₂ values₂′ scratch₂′
 
-  pub two-runs-guaranteed : Certifies certifying (certified.Accepted k) → Benches first s₁ benched.Accepted
+  pub two-runs-guaranteed : {k : ℕ} → Certifies certifying (certified.Accepted k) → Benches first s₁ benched.Accepted
       → Benches second s₂ benched.Accepted → AlikeStimuli t s₁ s₂ → ClaimsHold t certificate′ values₁′ values₂′
   two-runs-guaranteed p q q′ a v below =
       claim-holds certificate′ values₁′ values₂′ v
@@ -76,3 +81,17 @@ module _ (t certificate scratch certificate′ scratch′ : List ℕ) (k : ℕ)
 
       variable : v < length c
       variable = omega (arith, circuit-length t n)
+
+  pub calls-guaranteed : (r : Answers) → Certifies certifying (r .certified) → Benches first s₁ (r .first)
+      → Benches second s₂ (r .second) → Guarantees certifying s₁ first s₂ second r
+  calls-guaranteed r p q q′ =
+      record {
+        certifies = p;
+        benches-first = q;
+        benches-second = q′;
+        claims = λ ((k, e), e₁, e₂) a. two-runs-guaranteed
+            (subst (λ (y : Certified). Certifies certifying y) e p)
+            (subst (λ (y : Benched). Benches first s₁ y) e₁ q)
+            (subst (λ (y : Benched). Benches second s₂ y) e₂ q′)
+            a;
+      }

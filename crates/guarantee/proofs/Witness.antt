@@ -137,4 +137,4 @@ premises-met = (certified-once, benched₁, benched₂, stimuli-alike, λ e. ome
 -- so demand 3 speaks of these calls
 pub claims-met : ClaimsHold table (certifying .output-exit) (bench₁ .output-exit) (bench₂ .output-exit)
 claims-met =
-    two-runs-guaranteed _ _ _ _ _ _ _ _ _ _ _ _ _ _ _ _ certified-once benched₁ benched₂ stimuli-alike
+    two-runs-guaranteed _ _ _ _ _ _ _ _ _ _ _ _ _ _ _ certified-once benched₁ benched₂ stimuli-alike

@@ -1,2 +1,3 @@
 pub mod TwoRuns
+pub mod Guarantee
 pub mod Witness
