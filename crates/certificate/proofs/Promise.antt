@@ -15,8 +15,8 @@ use Rattle.fact.specs.Fact.{factBytes, factAt}
 use Rattle.fact.specs.Rule.{rule}
 use Rattle.fact.specs.Certificate.{initialStore, rounds, certificate}
 use Rattle.fact.proofs.Certificate.{least-agree, certificate-least, rounds-counted, rounds-few}
-use Rattle.schedule.specs.Schedule.{IsOrder, IsLoop}
-use Rattle.schedule.specs.Call.{buffers, LoopShown}
+use Rattle.schedule.specs.Schedule.{IsOrder}
+use Rattle.schedule.specs.Call.{buffers}
 use Rattle.schedule.proofs.Orders.{ordered-no-loop}
 use Rattle.schedule.proofs.Standing.{order-past}
 use Rattle.certificate.specs.Promise.{Certificate}

@@ -1,5 +1,5 @@
--- Record v of a table that meets none of grounds 5 to 10, by what it reads as: its width is at most 32, and its operands
--- are variables of the table.
+-- Record v of a table that meets none of grounds 5 to 10, by what it reads as: its width is at most 32, and its
+-- operands are variables of the table.
 -- Assumes nothing.
 use mathlib.Core.Path.{_≡_, sym, _∙_, subst}
 use mathlib.Core.List.{List}

@@ -1,10 +1,9 @@
 -- What holds of a list of stimuli that meets none of grounds 12 to 17: each stimulus of it meets none, every poke names
 -- an input of the circuit, and a fixed one with the number that it has.
 -- Assumes nothing.
-use mathlib.Core.Path.{_≡_, refl, sym, ap, subst}
+use mathlib.Core.Path.{_≡_, refl, subst}
 use mathlib.Core.Bool.{Bool, true, false, not, _&&_}
 use mathlib.Core.List.{List}
-use mathlib.Core.Option.{Option, none, some}
 use Prim.Native.Nat.{ℕ, zero, suc, _+_, _*_, _/_, _%_, _^_, _<_, _≤_}
 use native.Mathlib.Decide.{ℕ-discrete}
 use native.Mathlib.Omega.{arith}
@@ -13,7 +12,7 @@ use lib.Dec.{eqb, leb, ltb}
 use lib.ListN.{length}
 use Rattle.net.specs.declared.Stimulus.{Stimulus}
 use Rattle.net.specs.declared.Stimulus.the-variants.{Poke, Tick}
-use Rattle.net.specs.Net.{input, listBelow}
+use Rattle.net.specs.Net.{listBelow}
 use Rattle.circuit.specs.declared.record.InputKind.{InputKind}
 use Rattle.circuit.specs.declared.record.Record.{Record}
 use Rattle.circuit.specs.declared.record.Record.the-variants.{Input, Constant, Operator, Multiplexer, Register}
@@ -21,9 +20,11 @@ use Rattle.circuit.specs.declared.refusal.Ground.the-variants.{StimuliNo
 use Rattle.circuit.specs.declared.refusal.Ground.the-variants.{NotAnInput, PokeTooWide, FixedInput}
 use Rattle.circuit.specs.declared.refusal.Check.the-variants.{Passed}
 use Rattle.circuit.specs.declared.stimulus.ReadStimulus.the-variants.{Read}
-use Rattle.circuit.specs.Record.{width, role, inputOf}
+use Rattle.circuit.specs.Record.{width, inputOf}
 use Rattle.circuit.specs.Circuit.{Circuit, recordOf}
-use Rattle.circuit.specs.Stimuli.{stimulusKind, stimulusVariable, stimulusValue, stimulusOf, stimulusAt, badStimulus, readFrom, readStimulus, isInput, fixedToOther, checkStimulus, checkStimuliFrom, checkStimuli, stimuli, Accepted}
+use Rattle.circuit.specs.Stimuli.{stimulusKind, stimulusVariable, stimulusValue, stimulusOf, stimulusAt}
+use Rattle.circuit.specs.Stimuli.{badStimulus, readFrom, readStimulus, isInput, fixedToOther}
+use Rattle.circuit.specs.Stimuli.{checkStimulus, checkStimuliFrom, checkStimuli, stimuli, Accepted}
 use Rattle.circuit.proofs.Passing.{then-passed, refuse-passed}
 
 -- the stimulus of a stimulus's kind, variable and value is that stimulus

@@ -9,7 +9,7 @@ use lib.Dec.{T}
 use lib.ListN.{length}
 use Rattle.net.specs.declared.Stimulus.{Stimulus}
 use Rattle.net.specs.Tests.{member}
-use Rattle.net.specs.Net.{input, wire, register, settle, Settled}
+use Rattle.net.specs.Net.{input, register, settle, Settled}
 use Rattle.net.proofs.Bools.{member-1, member-2, member-3}
 use Rattle.net.proofs.Settle.{Ranked, Local, Agree, settle-settled, settle-unique}
 use Rattle.net.proofs.Machine.{run-settled}

@@ -1,5 +1,5 @@
--- What is promised of a certifying call and two bench calls on one table: the promise of each, and demand 3 of what they
--- write.
+-- What is promised of a certifying call and two bench calls on one table: the promise of each, and demand 3 of what
+-- they write.
 -- Assumes nothing.
 use mathlib.Core.Path.{_≡_}
 use mathlib.Core.List.{List}
@@ -20,8 +20,8 @@ AllAccepted r =
     × (r .second ≡ benched.Accepted)
 
 -- over the buffers of the certifying call, and the list and the buffers of each bench call
-pub record Guarantees (certifying : Buffers) (s : List ℕ) (first : Buffers) (s′ : List ℕ) (second : Buffers) (r : Answers)
-    : Type 0 where
+pub record Guarantees (certifying : Buffers) (s : List ℕ) (first : Buffers) (s′ : List ℕ) (second : Buffers)
+    (r : Answers) : Type 0 where
   pub certifies : Certifies certifying (r .certified)
   pub benches-first : Benches first s (r .first)
   pub benches-second : Benches second s′ (r .second)

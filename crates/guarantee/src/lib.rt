@@ -28,11 +28,14 @@ pub fn two_runs(
     scratch2: &mut [u16],
 ) -> Answers
     ensures { λ r. ⌜ Guarantees
-        (buffers (now (table .entry)) (now (certificate .entry)) (now (scratch .entry)) (now (certificate .exit)) (now (scratch .exit)))
+        (buffers (now (table .entry)) (now (certificate .entry)) (now (scratch .entry))
+        (now (certificate .exit)) (now (scratch .exit)))
         (now (stimuli1 .entry))
-        (buffers (now (table .entry)) (now (values1 .entry)) (now (scratch1 .entry)) (now (values1 .exit)) (now (scratch1 .exit)))
+        (buffers (now (table .entry)) (now (values1 .entry)) (now (scratch1 .entry))
+        (now (values1 .exit)) (now (scratch1 .exit)))
         (now (stimuli2 .entry))
-        (buffers (now (table .entry)) (now (values2 .entry)) (now (scratch2 .entry)) (now (values2 .exit)) (now (scratch2 .exit)))
+        (buffers (now (table .entry)) (now (values2 .entry)) (now (scratch2 .entry))
+        (now (values2 .exit)) (now (scratch2 .exit)))
         r ⌝ }
 {
     let certified = certify(table, certificate, scratch);

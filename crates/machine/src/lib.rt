@@ -87,7 +87,8 @@ fn bench_ordered(
 fn bench_checked(t: &[u8], s: &[u8], values: &mut [u32], scratch: &mut [u16]) -> Benched
     requires { ⌜ checkCall (now t) (length (now values)) 1 (length (now scratch)) 4 ≡ Passed ⌝ }
     ensures { λ r. ⌜ Benches
-        (buffers (now (t .entry)) (now (values .entry)) (now (scratch .entry)) (now (values .exit)) (now (scratch .exit)))
+        (buffers (now (t .entry)) (now (values .entry)) (now (scratch .entry))
+        (now (values .exit)) (now (scratch .exit)))
         (now (s .entry)) r ⌝ }
 {
     let n = t.len() / 16;
@@ -103,7 +104,8 @@ fn bench_checked(t: &[u8], s: &[u8], values: &mut [u32], scratch: &mut [u16]) ->
 // The bench call.
 pub fn bench(table: &[u8], stimuli: &[u8], values: &mut [u32], scratch: &mut [u16]) -> Benched
     ensures { λ r. ⌜ Benches
-        (buffers (now (table .entry)) (now (values .entry)) (now (scratch .entry)) (now (values .exit)) (now (scratch .exit)))
+        (buffers (now (table .entry)) (now (values .entry)) (now (scratch .entry))
+        (now (values .exit)) (now (scratch .exit)))
         (now (stimuli .entry)) r ⌝ }
 {
     let check = check_call(table, values.len(), 1, scratch.len(), 4);

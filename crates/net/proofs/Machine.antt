@@ -1,7 +1,7 @@
 -- Stimuli on a net without a loop: from states that agree on the net's variables they lead to states that agree, and
 -- each leaves every wire satisfied.
 -- Assumes nothing.
-use mathlib.Core.Path.{_≡_, ap}
+use mathlib.Core.Path.{ap}
 use mathlib.Core.Bool.{true, false}
 use mathlib.Core.List.{List, [], _∷_}
 use Prim.Native.Nat.{ℕ}

@@ -34,10 +34,13 @@ same-length-6 c = search needs
 
 returns : tie.Need-returns
 returns c =
-    let x = c .before .before .before .before .before .before .before .before .before .before .before .before .before .before .before .before .before .before .before .before .before .before .before .before .before .before .before .before .before .before .args in
-    let certified = c .before .before .before .before .before .before .before .before .before .before .before .before .before .before .before .before .before .before .certify in
-    let first = c .before .before .before .before .before .before .before .before .before .before .before .bench in
-    let second = c .before .before .before .before .bench2 in
+    let ran = c .before .before .before .before in
+    let before = ran .before .before .before .before .before .before .before in
+    let start = before .before .before .before .before .before .before .before in
+    let x = start .before .before .before .before .before .before .before .before .before .before .before .before .args in
+    let certified = start .certify in
+    let first = before .bench in
+    let second = ran .bench2 in
     calls-guaranteed (x .table .now) (x .certificate .now) (x .scratch .now) (certified .last .1 .0)
     (certified .last .1 .1 .0) (x .values1 .now) (x .scratch1 .now) (first .last .1 .1 .0) (first .last .1 .1 .1 .0)
     (x .stimuli1 .now) (x .values2 .now) (x .scratch2 .now) (second .last .1 .1 .0) (second .last .1 .1 .1 .0)

@@ -31,9 +31,10 @@ enum-known-outcome-2 c = search needs
 
 bench-ordered-requires : tie.Need-bench-ordered-requires
 bench-ordered-requires c κs =
-    let x = c .before .before .before .before .before .before .before .before .before .before .before .before .before .args in
-    let ok = c .before .before .before .before .before .before .before .before .before .before .before .before .before .pre in
-    let call = c .before .before .before .before .before .before .before .schedule in
+    let ordered = c .before .before .before .before .before .before .before in
+    let x = ordered .before .before .before .before .before .before .args in
+    let ok = ordered .before .before .before .before .before .before .pre in
+    let call = ordered .schedule in
     let told = c .before .before .before .outcome2 .given in
     let n = length (x .t .now) / 16 in
     let o : IsOrder (circuit (x .t .now) n) (n * 4) (x .scratch .now) (call .last .1 .1 .1 .0) (told .0 .0)
@@ -56,7 +57,8 @@ returns c =
     inr (inl (
       refl,
       loop-shown 1 4
-          (buffers (x .t .now) (x .values .now) (x .scratch .now) (x .values .now) (call .last .1 .1 .1 .0)) (told .0 .0)
+          (buffers (x .t .now) (x .values .now) (x .scratch .now) (x .values .now) (call .last .1 .1 .1 .0))
+          (told .0 .0)
           (c .before .before .before .before .before .before .before .before .before .before .before .pre) l refl,
     ))
 
@@ -68,9 +70,10 @@ same-length-3 c = search needs
 
 returns-2 : tie.Need-returns-2
 returns-2 c =
-    let x = c .before .before .before .before .before .before .before .before .before .before .before .before .before .before .before .before .before .before .args in
-    let ok = c .before .before .before .before .before .before .before .before .before .before .before .before .before .before .before .before .before .before .pre in
-    let call = c .before .before .before .before .before .before .before .before .before .before .before .before .schedule in
+    let ordered = c .before .before .before .before .before .before .before .before .before .before .before .before in
+    let x = ordered .before .before .before .before .before .before .args in
+    let ok = ordered .before .before .before .before .before .before .pre in
+    let call = ordered .schedule in
     let told = c .before .before .before .before .before .before .before .before .outcome2 .given in
     let n = length (x .t .now) / 16 in
     let o : IsOrder (circuit (x .t .now) n) (n * 4) (x .scratch .now) (call .last .1 .1 .1 .0) (told .0 .0)

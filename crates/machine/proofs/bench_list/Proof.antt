@@ -23,11 +23,12 @@ power-on-requires c κs = search needs
 
 run-requires : tie.Need-run-requires
 run-requires c κs =
-    let p = c .before .before .before .before .before .before .before .before .before .before .before .before .before .before .pre in (
+    let read = c .before .before .before .before .before .before .before .before .before in
+    let p = read .before .before .before .before .before .pre in (
       p .0,
       (
         omega (arith, p .1, c .before .before .before .before .power-on .ensures .kept .long),
-        sym (c .before .before .before .before .before .before .before .before .before .check-stimuli .ensures) ∙ c .before .before .before .before .before .before .before .enum-told .given .1,
+        sym (read .check-stimuli .ensures) ∙ c .before .before .before .before .before .before .before .enum-told .given .1,
       ),
     )
 
@@ -45,14 +46,17 @@ same-length-2 c = search needs
 
 returns-2 : tie.Need-returns-2
 returns-2 c =
-    let x = c .before .before .before .before .before .before .before .before .before .before .before .before .before .before .before .before .before .before .before .args in
-    let p = c .before .before .before .before .before .before .before .before .before .before .before .before .before .before .before .before .before .before .before .pre in
-    let ran = c .before .before .before .before .run .ensures in (
-      ran .0,
+    let ran = c .before .before .before .before in
+    let on = ran .before .before .before .before .before in
+    let told = on .before .before .before in
+    let read = told .before .before in
+    let x = read .before .before .before .before .before .args in
+    let p = read .before .before .before .before .before .pre in (
+      ran .run .ensures .0,
       (
-        sym (c .before .before .before .before .before .before .before .before .before .before .before .before .before .before .check-stimuli .ensures) ∙ c .before .before .before .before .before .before .before .before .before .before .before .before .enum-told .given .1,
-        machine-holds (x .t .now) (x .n) (p .0 .valid) (p .0 .order) (stimuli (x .s .now))
-            (c .before .before .before .before .before .before .before .before .before .power-on .ensures) (ran .1),
+        sym (read .check-stimuli .ensures) ∙ told .enum-told .given .1,
+        machine-holds (x .t .now) (x .n) (p .0 .valid) (p .0 .order) (stimuli (x .s .now)) (on .power-on .ensures)
+            (ran .run .ensures .1),
       ),
     )
 

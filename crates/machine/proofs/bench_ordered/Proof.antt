@@ -24,11 +24,12 @@ same-length-2 c = search needs
 
 returns : tie.Need-returns
 returns c =
-    let x = c .before .before .before .before .before .before .before .before .before .before .before .before .before .before .before .args in
-    let answer = c .before .before .before .before .before .before .before .before .bench-list .ensures in (
-      part-cleared (x .n + x .n) (x .n * 4) (x .n * 4) (x .scratch .now) _ _ (answer .0) (omega arith)
-          (c .before .before .before .before .before .before .before .before .before .before .before .before .before .before .before .pre .0 .room) (c .before .before .clear .ensures),
-      answer .1,
+    let answer = c .before .before .before .before .before .before .before .before in
+    let x = answer .before .before .before .before .before .before .before .args in
+    let p = answer .before .before .before .before .before .before .before .pre in (
+      part-cleared (x .n + x .n) (x .n * 4) (x .n * 4) (x .scratch .now) _ _ (answer .bench-list .ensures .0)
+          (omega arith) (p .0 .room) (c .before .before .clear .ensures),
+      answer .bench-list .ensures .1,
     )
 
 pub bench-ordered-spec : {M : Type 1} → statement M
