@@ -11,27 +11,15 @@ use Rattle.circuit.specs.Circuit.{Circuit, circuit, graph, NoLoop}
 use Rattle.circuit.specs.Checks.{checkCall}
 use Rattle.circuit.proofs.Passing.{Fits, call-fits}
 use Rattle.circuit.proofs.Tables.{Inside, circuit-length, circuit-inside}
-use Rattle.fact.specs.declared.Fact.{Fact}
 use Rattle.fact.specs.Fact.{factBytes, factAt}
 use Rattle.fact.specs.Rule.{rule}
-use Rattle.fact.specs.Certificate.{LeastStore, initialStore, rounds, certificate}
-use Rattle.fact.proofs.Certificate.{rules-agree, certificate-least, rounds-counted, rounds-few}
-use Rattle.schedule.specs.Schedule.{IsOrder, IsLoop}
-use Rattle.schedule.specs.Call.{buffers, LoopShown}
+use Rattle.fact.specs.Certificate.{initialStore, rounds, certificate}
+use Rattle.fact.proofs.Certificate.{least-agree, certificate-least, rounds-counted, rounds-few}
+use Rattle.schedule.specs.Schedule.{IsOrder}
+use Rattle.schedule.specs.Call.{buffers}
 use Rattle.schedule.proofs.Orders.{ordered-no-loop}
 use Rattle.schedule.proofs.Standing.{order-past}
 use Rattle.certificate.specs.Promise.{Certificate}
-
--- ---- the least closed store, of bytes that agree with it
-
-least-agree : (c : Circuit) → Inside c → (s t : ℕ → Fact) → ((v : ℕ) → v < length c → t v ≡ s v) → LeastStore c s
-    → LeastStore c t
-least-agree c inside s t h (closed, least) = (
-  λ v below. rw (h v below, rules-agree c inside t s h v below) (closed v below),
-  λ u other v below. rw (h v below) (least u other v below),
-)
-
--- ---- the promise
 
 module _ (t cells scratch : List ℕ) (ok : checkCall t (length cells) 8 (length scratch) 4 ≡ Passed) where
   abbrev n : ℕ

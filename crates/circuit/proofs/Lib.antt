@@ -5,6 +5,7 @@ pub mod Operators
 pub mod Decoding
 pub mod Records
 pub mod Tables
+pub mod Operands
 pub mod Scan
 pub mod Values
 pub mod Stimuli

@@ -243,8 +243,8 @@ fn uses_below(r: Record, n: usize) -> bool
     }
 }
 
-// Ground 10.
-fn too_wide(value: u32, w: u8) -> bool
+// Whether a value does not fit the width w.
+pub fn too_wide(value: u32, w: u8) -> bool
     requires { ⌜ w ≤ 32 ⌝ }
     ensures { λ r. ⌜ r ≡ leb (2 ^ w) value ⌝ }
 {

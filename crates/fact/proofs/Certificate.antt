@@ -40,7 +40,7 @@ use Rattle.fact.specs.Fact.{_⊑_, itself, same, narrow}
 use Rattle.fact.specs.Rule.{inputRule, ruleOf, rule}
 use Rattle.fact.specs.Certificate.{ClosedStore, LeastStore, initialFact, initialStore, registers, rounds, certificate}
 use Rattle.fact.specs.TwoRuns.{isSecret, AlikeLists, Claims, number, alike, nothing}
-use Rattle.fact.proofs.Order.{⊑-of-eq, ⊑-trans, same-eq, same-refl, height, height-rises, height-most, join-right, operator-mono, multiplexer-mono, register-mono}
+use Rattle.fact.proofs.Order.{⊑-of-eq, ⊑-trans, ⊑-antisym, same-eq, same-refl, height, height-rises, height-most, join-right, operator-mono, multiplexer-mono, register-mono}
 use Rattle.fact.proofs.Claims.{claims-up, claims-operator, claims-multiplexer, claims-register}
 
 -- ---- one record's rule
@@ -133,6 +133,19 @@ module _ (c : Circuit) where
       → (v : ℕ) → v < length c → rule c s v ≡ rule c t v
   unfolding rule
   rules-agree inside s t h v below = rule-local (recordOf c v) s t (λ u m. h u (inside v u below m))
+
+  -- a store that agrees with a least closed one on the circuit's variables is one
+  pub least-agree : Inside c → (s t : ℕ → Fact) → ((v : ℕ) → v < length c → t v ≡ s v) → LeastStore c s
+      → LeastStore c t
+  least-agree inside s t h (closed, least) = (
+    λ v below. rw (h v below, rules-agree inside t s h v below) (closed v below),
+    λ u other v below. rw (h v below) (least u other v below),
+  )
+
+  -- two least closed stores agree on the circuit's variables
+  pub least-unique : (s t : ℕ → Fact) → LeastStore c s → LeastStore c t → (v : ℕ) → v < length c → s v ≡ t v
+  least-unique s t (closed, least) (closed′, least′) v below =
+      ⊑-antisym (least t closed′ v below) (least′ s closed v below)
 
   monotone : Monotone (graph c) _⊑_ (rule c) (λ v. initialFact (recordOf c v))
   unfolding rule

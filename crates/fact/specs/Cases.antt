@@ -45,7 +45,7 @@ withRecord1 r =
     ∷ []
 
 -- A: record 1 is a free input
-abbrev caseA : Case
+abbrev pub caseA : Case
 caseA =
     record {
       records = withRecord1 (0 ∷ 1 ∷ 1 ∷ 0 ∷ 0 ∷ 0 ∷ 0 ∷ 0 ∷ 0 ∷ 0 ∷ 0 ∷ 0 ∷ 0 ∷ 0 ∷ 0 ∷ 0 ∷ []);

@@ -5,3 +5,4 @@ pub mod Settle
 pub mod Loops
 pub mod Rounds
 pub mod TwoRuns
+pub mod Machine

@@ -10,15 +10,16 @@ use Rattle.circuit.specs.declared.refusal.Ground.{Ground}
 use Rattle.circuit.specs.declared.refusal.Check.{Check}
 use Rattle.circuit.specs.declared.refusal.Check.the-variants.{Passed, Refused}
 use Rattle.circuit.specs.Refusal.{groundNumber}
-use Rattle.circuit.proofs.Places.{placeOf, call-place, call-ground}
+use Rattle.circuit.proofs.Places.{call-place, call-ground}
 use Rattle.schedule.specs.Call.{Buffers, buffers, size, TurnedDown, LoopShown}
-
-abbrev refusal-ground : Ground → Check → Ground
-refusal-ground other Passed = other
-refusal-ground other (Refused g place) = g
 
 pub passed-refused : {g : Ground} {place : ℕ} {check : Check} → check ≡ Passed → check ≡ Refused g place → ⊥
 passed-refused p q = let z : _≡_ {A = ℕ} 0 1 = cc in omega arith
+
+-- a check is refused on one ground, at one place
+pub refusal-unique : {g h : Ground} {i j : ℕ} {check : Check} → check ≡ Refused g i → check ≡ Refused h j
+    → (g ≡ h) × (i ≡ j)
+refusal-unique p q = (cc, cc)
 
 module _ (each room : ℕ) (t output scratch output₁ scratch₁ output₂ scratch₂ : List ℕ) where
   abbrev first : Buffers
@@ -29,12 +30,9 @@ module _ (each room : ℕ) (t output scratch output₁ scratch₁ output₂ scra
 
   pub turned-down-alike : (g h : Ground) (i j : ℕ) → TurnedDown each room first g i → TurnedDown each room second h j
       → (g ≡ h) × (i ≡ j) × (output₁ ≡ output₂) × (scratch₁ ≡ scratch₂)
-  turned-down-alike g h i j p q = (
-    ap (refusal-ground g) (sym (p .first) ∙ q .first),
-    ap placeOf (sym (p .first) ∙ q .first),
-    p .output ∙ sym (q .output),
-    p .scratch ∙ sym (q .scratch),
-  )
+  turned-down-alike g h i j p q =
+      let (e, e′) = refusal-unique (p .first) (q .first) in
+      (e, e′, p .output ∙ sym (q .output), p .scratch ∙ sym (q .scratch))
 
 pub turned-down-place : (each room : ℕ) (b : Buffers) (g : Ground) (place : ℕ) → TurnedDown each room b g place
     → place ≤ 4096

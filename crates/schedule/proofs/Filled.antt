@@ -18,6 +18,14 @@ kept-trans p q = record { long = q .long ∙ p .long; beyond = λ i l. q .beyond
 pub kept-none : (m : ℕ) (a : List ℕ) → Kept m a a
 kept-none m a = record { long = refl; beyond = λ i l. refl }
 
+-- one number more among the first m
+pub kept-set : {m : ℕ} {a b : List ℕ} (j x : ℕ) → j < m → Kept m a b → Kept m a (set b j x)
+kept-set {b = b} j x below p =
+    record {
+      long = length-set b j x ∙ p .long;
+      beyond = λ i l. getD-set-other b j i x 0 (λ e. omega arith) ∙ p .beyond i l;
+    }
+
 pub outside-trans : {from to : ℕ} {a b c : List ℕ} → KeptOutside from to a b → KeptOutside from to b c
     → KeptOutside from to a c
 outside-trans p q =
@@ -38,6 +46,16 @@ outside-set {b = b} j x low high p =
       long = length-set b j x ∙ p .long;
       before = λ i l. getD-set-other b j i x 0 (λ e. omega arith) ∙ p .before i l;
       beyond = λ i l. getD-set-other b j i x 0 (λ e. omega arith) ∙ p .beyond i l;
+    }
+
+-- what lies outside a region lies outside a region in it
+pub outside-wider : {from to from′ to′ : ℕ} {a b : List ℕ} → from ≤ from′ → to′ ≤ to → KeptOutside from′ to′ a b
+    → KeptOutside from to a b
+outside-wider low high p =
+    record {
+      long = p .long;
+      before = λ i l. p .before i (omega arith);
+      beyond = λ i l. p .beyond i (omega arith);
     }
 
 pub filled-kept : (m : ℕ) {from count : ℕ} {f : ℕ → ℕ} {a b : List ℕ} → from + count ≤ m → Filled from count f a b

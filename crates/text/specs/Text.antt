@@ -12,7 +12,9 @@ use Rattle.fact.specs.declared.Fact.{Fact}
 use Rattle.fact.specs.declared.Fact.the-variants.{Always, Open, Marked}
 use Rattle.fact.specs.Fact.{factAt}
 use Rattle.certificate.specs.declared.Certified.{Certified}
-use Rattle.certificate.specs.declared.Certified.the-variants.{Accepted, Refused}
+use Rattle.certificate.specs.declared.Certified.the-variants as certified
+use Rattle.machine.specs.declared.Benched.{Benched}
+use Rattle.machine.specs.declared.Benched.the-variants as benched
 
 -- the digits of n in base ten, the most significant first; `fuel` is enough where it is more than n
 unfoldable pub digits : ℕ → ℕ → List ℕ
@@ -108,6 +110,11 @@ refusalText g place s =
     ]
 
 -- all that is printed of the certifying call's answer on a table of n records
-abbrev pub answerText : Certified → ℕ → List ℕ → List ℕ → List ℕ
-answerText (Accepted k) n cells s = roundsLine k ++ factLines cells n
-answerText (Refused g place) n cells s = refusalText g place s
+abbrev pub certifiedText : Certified → ℕ → List ℕ → List ℕ → List ℕ
+certifiedText (certified.Accepted k) n cells s = roundsLine k ++ factLines cells n
+certifiedText (certified.Refused g place) n cells s = refusalText g place s
+
+-- all that is printed of the bench call's answer on a table of n records
+abbrev pub benchedText : Benched → ℕ → List ℕ → List ℕ → List ℕ
+benchedText benched.Accepted n values s = valueLines values n
+benchedText (benched.Refused g place) n values s = refusalText g place s

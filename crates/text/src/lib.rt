@@ -3,17 +3,20 @@
 ghost use Prim.Native.Nat.{_≤_};
 ghost use lib.ListN.{length};
 ghost use Rattle.schedule.specs.Call.{buffers};
-ghost use Rattle.text.specs.Text.{refusalText, answerText};
+ghost use Rattle.text.specs.Text.{refusalText, certifiedText, benchedText};
 ghost use Rattle.text.specs.Pieces.{Put};
-ghost use Rattle.text.specs.Prints.{ShowsRow, Printable, Prints};
+ghost use Rattle.text.specs.Prints.{ShowsRow, CertifiedStands, BenchedStands, CertifiesInText, BenchesInText};
 use crate::lines::put_facts;
 use crate::lines::put_loop;
 use crate::lines::put_refusal;
 use crate::lines::put_rounds;
+use crate::lines::put_values;
 use certificate::Certified;
 use certificate::certify;
 use circuit::refusal::Ground;
 use circuit::refusal::ground_number;
+use machine::Benched;
+use machine::bench;
 
 mod lines;
 mod put;
@@ -32,15 +35,16 @@ fn put_refused(out: &mut [u8], ground: Ground, place: usize, scratch: &[u16]) ->
 }
 
 // The certifying call's answer, on a table of n records.
-fn put_answer(
+fn put_certified(
     out: &mut [u8],
     answer: Certified,
     n: usize,
     certificate: &[u8],
     scratch: &[u16],
 ) -> usize
-    requires { ⌜ (131072 ≤ length (now out)) × Printable answer n (length (now certificate)) (length (now scratch)) ⌝ }
-    ensures { λ r. ⌜ Put (answerText answer n (now (certificate .entry)) (now (scratch .entry)))
+    requires { ⌜ 131072 ≤ length (now out) ⌝ }
+    requires { ⌜ CertifiedStands answer n (length (now certificate)) (length (now scratch)) ⌝ }
+    ensures { λ r. ⌜ Put (certifiedText answer n (now (certificate .entry)) (now (scratch .entry)))
         (now (out .entry)) (length (now (out .entry))) (now (out .exit)) r ⌝ }
 {
     match answer {
@@ -52,6 +56,19 @@ fn put_answer(
     }
 }
 
+// The bench call's answer, on a table of n records.
+fn put_benched(out: &mut [u8], answer: Benched, n: usize, values: &[u32], scratch: &[u16]) -> usize
+    requires { ⌜ 131072 ≤ length (now out) ⌝ }
+    requires { ⌜ BenchedStands answer n (length (now values)) (length (now scratch)) ⌝ }
+    ensures { λ r. ⌜ Put (benchedText answer n (now (values .entry)) (now (scratch .entry)))
+        (now (out .entry)) (length (now (out .entry))) (now (out .exit)) r ⌝ }
+{
+    match answer {
+        Benched::Accepted => put_values(out, out.len(), values, n),
+        Benched::Refused(ground, place) => put_refused(out, ground, place, scratch),
+    }
+}
+
 // Certifies a table and makes the text of the answer. It stands in `out` from the place answered up to the end.
 pub fn certify_text(
     table: &[u8],
@@ -59,11 +76,31 @@ pub fn certify_text(
     scratch: &mut [u16],
     out: &mut [u8; 131072],
 ) -> usize
-    ensures { λ r. ⌜ Prints
-        (buffers (now (table .entry)) (now (certificate .entry)) (now (scratch .entry)) (now (certificate .exit)) (now (scratch .exit)))
+    ensures { λ r. ⌜ CertifiesInText
+        (buffers (now (table .entry)) (now (certificate .entry)) (now (scratch .entry))
+        (now (certificate .exit)) (now (scratch .exit)))
         (now (out .exit)) r ⌝ }
     ensures { λ r. ⌜ (r ≤ 131072) × (131072 ≤ length (now (out .exit))) ⌝ }
 {
     let answer = certify(table, certificate, scratch);
-    put_answer(out, answer, table.len() / 16, certificate, scratch)
+    put_certified(out, answer, table.len() / 16, certificate, scratch)
+}
+
+// Runs a list of stimuli on a table and makes the text of the answer. It stands in `out` from the place answered up to
+// the end.
+pub fn bench_text(
+    table: &[u8],
+    stimuli: &[u8],
+    values: &mut [u32],
+    scratch: &mut [u16],
+    out: &mut [u8; 131072],
+) -> usize
+    ensures { λ r. ⌜ BenchesInText
+        (buffers (now (table .entry)) (now (values .entry)) (now (scratch .entry))
+        (now (values .exit)) (now (scratch .exit)))
+        (now (stimuli .entry)) (now (out .exit)) r ⌝ }
+    ensures { λ r. ⌜ (r ≤ 131072) × (131072 ≤ length (now (out .exit))) ⌝ }
+{
+    let answer = bench(table, stimuli, values, scratch);
+    put_benched(out, answer, table.len() / 16, values, scratch)
 }

@@ -1,7 +1,6 @@
 -- The certifying call's promise, of the answer that is packed.
 -- Assumes nothing.
 use borrow.Author.Needs.{needs}
-use Rattle.schedule.specs.Call.{buffers}
 use Rattle.capi.proofs.Packed.{certified-low}
 use Rattle.capi.proofs.lambdac_certify.Statement.{statement}
 use Rattle.capi.proofs.lambdac_certify.Tie as tie
@@ -9,8 +8,8 @@ use Rattle.capi.proofs.lambdac_certify.Tie as tie
 certify-requires : tie.Need-certify-requires
 certify-requires c κs = search needs
 
-pack-requires : tie.Need-pack-requires
-pack-requires c κs =
+pack-certified-requires : tie.Need-pack-certified-requires
+pack-certified-requires c κs =
     let call = c .before .before .before .before .certify in
     certified-low _ (call .result) (call .ensures) (call .kept .1 .1 .0)
 
@@ -26,10 +25,10 @@ returns c =
     record {
       answer = call .result;
       low = certified-low _ (call .result) (call .ensures) (call .kept .1 .1 .0);
-      is = c .pack .ensures;
+      is = c .pack-certified .ensures;
       certifies = call .ensures;
     }
 
 pub lambdac-certify-spec : {M : Type 1} → statement M
 lambdac-certify-spec =
-    tie.close (tie.spec certify-requires pack-requires same-length same-length-2 returns)
+    tie.close (tie.spec certify-requires pack-certified-requires same-length same-length-2 returns)

@@ -2,7 +2,7 @@
 -- Assumes nothing.
 use native.Mathlib.Omega.{arith}
 use Rattle.text.proofs.Pieces.{put-whole}
-use Rattle.text.proofs.Answers.{answer-printable}
+use Rattle.text.proofs.Answers.{certified-stands}
 use borrow.Author.Needs.{needs}
 use Rattle.text.proofs.certify_text.Statement.{statement}
 use Rattle.text.proofs.certify_text.Tie as tie
@@ -10,10 +10,10 @@ use Rattle.text.proofs.certify_text.Tie as tie
 certify-requires : tie.Need-certify-requires
 certify-requires c κs = search needs
 
-put-answer-requires : tie.Need-put-answer-requires
-put-answer-requires c κs =
+put-certified-requires : tie.Need-put-certified-requires
+put-certified-requires c κs =
     let call = c .before .before .before .before .before .before .before .certify in
-    (omega arith, answer-printable _ (call .kept .1 .0) (call .kept .1 .1 .0) (call .result) (call .ensures))
+    (omega arith, certified-stands _ (call .kept .1 .0) (call .kept .1 .1 .0) (call .result) (call .ensures))
 
 same-length : tie.Need-same-length
 same-length c = search needs
@@ -24,7 +24,7 @@ same-length-2 c = search needs
 returns : tie.Need-returns
 returns c =
     let call = c .before .before .before .before .before .before .before .before .certify in
-    let put = c .put-answer .ensures in (
+    let put = c .put-certified .ensures in (
       record {
         answer = call .result;
         certifies = call .ensures;
@@ -35,4 +35,4 @@ returns c =
 
 pub certify-text-spec : {M : Type 1} → statement M
 certify-text-spec =
-    tie.close (tie.spec certify-requires put-answer-requires same-length same-length-2 returns)
+    tie.close (tie.spec certify-requires put-certified-requires same-length same-length-2 returns)

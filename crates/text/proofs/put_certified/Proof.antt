@@ -3,8 +3,8 @@
 use native.Mathlib.Omega.{arith}
 use Rattle.text.proofs.Pieces.{put-then}
 use borrow.Author.Needs.{needs}
-use Rattle.text.proofs.put_answer.Statement.{statement}
-use Rattle.text.proofs.put_answer.Tie as tie
+use Rattle.text.proofs.put_certified.Statement.{statement}
+use Rattle.text.proofs.put_certified.Tie as tie
 
 enum-known-answer : tie.Need-enum-known-answer
 enum-known-answer c = search needs
@@ -40,8 +40,8 @@ same-length-2 c = search needs
 returns-2 : tie.Need-returns-2
 returns-2 c = rw (c .before .before .before .before .before .answer2 .given .1) (c .before .before .put-refused .ensures)
 
-pub put-answer-spec : {M : Type 1} → statement M
-put-answer-spec =
+pub put-certified-spec : {M : Type 1} → statement M
+put-certified-spec =
     tie.close
     (tie.spec
     enum-known-answer

@@ -1,0 +1,36 @@
+-- The rounds, or the number of the refusal.
+-- Assumes nothing.
+use mathlib.Core.Path.{sym, ap, _∙_}
+use Rattle.capi.specs.Packed.{packedCertified}
+use borrow.Author.Needs.{needs}
+use Rattle.capi.proofs.pack_certified.Statement.{statement}
+use Rattle.capi.proofs.pack_certified.Tie as tie
+
+enum-known-answer : tie.Need-enum-known-answer
+enum-known-answer c = search needs
+
+cast-result : tie.Need-cast-result
+cast-result c = search needs
+
+enum-known-answer-2 : tie.Need-enum-known-answer-2
+enum-known-answer-2 c = search needs
+
+pack-refusal-requires : tie.Need-pack-refusal-requires
+pack-refusal-requires c κs = rw (c .before .answer2 .given .1) at (c .before .before .before .pre)
+
+returns : tie.Need-returns
+returns c = search needs
+
+returns-2 : tie.Need-returns-2
+returns-2 c = c .pack-refusal .ensures ∙ ap packedCertified (sym (c .before .before .answer2 .given .1))
+
+pub pack-certified-spec : {M : Type 1} → statement M
+pack-certified-spec =
+    tie.close
+    (tie.spec
+    enum-known-answer
+    cast-result
+    enum-known-answer-2
+    pack-refusal-requires
+    returns
+    returns-2)

@@ -1,0 +1,140 @@
+-- The premises of demand 3 can be met, by lists whose secret pokes differ: three promises that hold of case A's table,
+-- with buffers that are written out, and runs in which the secret input ends with two numbers.
+-- Assumes nothing.
+use mathlib.Core.Path.{_≡_, refl, sym, ap, _∙_, subst}
+use mathlib.Core.Logic.{_⊎_, inl, inr}
+use mathlib.Core.Bool.{Bool, _||_}
+use mathlib.Core.List.{List, [], _∷_, flatten, flatMap}
+use Prim.Native.Nat.{ℕ, zero, suc, _*_, _≤_, _<_}
+use native.Mathlib.Omega.{arith}
+use borrow.Author.Tests.{ltb-true}
+use lib.Dec.{T, ltb}
+use lib.ListN.{length, getD}
+use Rattle.net.specs.Tests.{allBelow, every, member}
+use Rattle.net.specs.Net.{wire, listBelow, after, Counts}
+use Rattle.net.proofs.Bools.{of-T, or-cases, all-at, every-at}
+use Rattle.net.proofs.Lists.{getD-listBelow}
+use Rattle.net.proofs.Loops.{ranked-no-loop}
+use Rattle.circuit.specs.Record.{uses, role, isRegister}
+use Rattle.circuit.specs.Circuit.{Circuit, circuit, recordOf, graph, NoLoop}
+use Rattle.circuit.specs.Checks.{checkRecords}
+use Rattle.circuit.specs.Machine.{machine}
+use Rattle.circuit.specs.Stimuli.{checkStimuli, stimuli}
+use Rattle.circuit.proofs.Tables.{Inside, circuit-inside}
+use Rattle.fact.specs.declared.Fact.{Fact}
+use Rattle.fact.specs.declared.Fact.the-variants.{Open}
+use Rattle.fact.specs.Fact.{factAt}
+use Rattle.fact.specs.Rule.{rule}
+use Rattle.fact.specs.Certificate.{initialStore, registers, rounds, certificate}
+use Rattle.fact.proofs.Certificate.{least-agree, certificate-least, rounds-counted, rounds-few}
+use Rattle.schedule.specs.Call.{circuitOf}
+use Rattle.certificate.specs.declared.Certified.the-variants as certified
+use Rattle.certificate.specs.Promise.{Certifies}
+use Rattle.machine.specs.declared.Benched.the-variants as benched
+use Rattle.machine.specs.Promise.{Benches}
+use Rattle.guarantee.specs.TwoRuns.{BothTick, BothPoke, AlikeStimuli, ClaimsHold}
+use Rattle.guarantee.specs.Witness.{table, stimuli₁, stimuli₂, certifying, bench₁, bench₂}
+use Rattle.guarantee.proofs.TwoRuns.{two-runs-guaranteed}
+
+-- ---- a circuit has no loop where a rank falls along every wire's uses
+
+-- a variable is a register, or its rank is above that of all that it uses
+abbrev falling : Circuit → (ℕ → ℕ) → ℕ → Bool
+falling c rank v = isRegister (recordOf c v) || every (λ u. ltb (rank u) (rank v)) (uses (recordOf c v))
+
+falls : (c : Circuit) (rank : ℕ → ℕ) (v u : ℕ) → T (falling c rank v) → role (recordOf c v) ≡ wire
+    → T (member u (uses (recordOf c v))) → rank u < rank v
+falls c rank v u h e used =
+    or-cases (isRegister (recordOf c v)) (every (λ x. ltb (rank x) (rank v)) (uses (recordOf c v))) h
+    (λ t. absurd (rw (e, T, isRegister) at t))
+    (λ t. ltb-true (rank u) (rank v) (of-T _ (every-at (λ x. ltb (rank x) (rank v)) (uses (recordOf c v)) t u used)))
+
+no-loop-by-rank : (c : Circuit) (rank : ℕ → ℕ) → Inside c → T (allBelow (λ v. ltb (rank v) (length c)) (length c))
+    → T (allBelow (falling c rank) (length c)) → NoLoop c
+no-loop-by-rank c rank inside small h =
+    ranked-no-loop
+    (record {
+      inside = inside;
+      rank = rank;
+      small = λ v below e.
+          ltb-true (rank v) (length c) (of-T _ (all-at (λ x. ltb (rank x) (length c)) (length c) small v below));
+      falls = λ v u below e d used. falls c rank v u (all-at (falling c rank) (length c) h v below) e used;
+    })
+
+-- ---- case A's table
+
+abbrev c : Circuit
+c = circuitOf certifying
+
+inside : Inside c
+unfolding checkRecords flatten
+inside = circuit-inside table 7 refl
+
+no-loop : NoLoop c
+unfolding circuit flatten allBelow every
+no-loop = no-loop-by-rank c (λ v. getD (0 ∷ 0 ∷ 0 ∷ 0 ∷ 2 ∷ 1 ∷ 1 ∷ []) v 0) inside tt tt
+
+-- the certificate's bytes hold the facts of the certificate
+facts-written : (v : ℕ) → v < length c → factAt (certifying .output-exit) v ≡ certificate c v
+unfolding flatten circuit listBelow certificate
+facts-written v below =
+    let same : listBelow (factAt (certifying .output-exit)) 7 ≡ listBelow (certificate c) 7 = refl in
+    let variable : v < 7 = below in
+    sym (getD-listBelow (factAt (certifying .output-exit)) 7 v Open variable)
+    ∙ ap (λ (fs : List Fact). getD fs v Open) same
+    ∙ getD-listBelow (certificate c) 7 v Open variable
+
+one-round : rounds c ≡ 1
+unfolding flatten circuit rounds
+one-round = refl
+
+certified-once : Certifies certifying (certified.Accepted 1)
+unfolding flatten flatMap circuit checkRecords listBelow rule initialStore after
+certified-once =
+    record {
+      passed = refl;
+      no-loop = no-loop;
+      counts =
+          subst (λ (k : ℕ). Counts (graph c) (rule c) (initialStore c) k) one-round (rounds-counted c inside no-loop);
+      few = subst (λ (k : ℕ). k ≤ 2 * registers c) one-round (rounds-few c inside no-loop);
+      certificate = refl;
+      least = least-agree c inside (certificate c) (factAt (certifying .output-exit)) facts-written
+          (certificate-least c inside no-loop);
+      scratch = refl;
+    }
+
+benched₁ : Benches bench₁ stimuli₁ benched.Accepted
+unfolding flatten circuit checkRecords checkStimuli stimuli listBelow machine
+benched₁ =
+    record { passed = refl; no-loop = no-loop; list-passed = refl; values = refl; scratch = refl }
+
+benched₂ : Benches bench₂ stimuli₂ benched.Accepted
+unfolding flatten circuit checkRecords checkStimuli stimuli listBelow machine
+benched₂ =
+    record { passed = refl; no-loop = no-loop; list-passed = refl; values = refl; scratch = refl }
+
+alike-places : (i : ℕ) → i < 5 → BothTick stimuli₁ stimuli₂ (i * 8) ⊎ BothPoke table stimuli₁ stimuli₂ (i * 8)
+unfolding flatten
+alike-places zero h = inr (record { pokes = (refl, refl); same-variable = refl; same-value = inl refl })
+alike-places (suc zero) h = inr (record { pokes = (refl, refl); same-variable = refl; same-value = inr (refl, refl) })
+alike-places (suc (suc zero)) h = inl (refl, refl)
+alike-places (suc (suc (suc zero))) h =
+    inr (record { pokes = (refl, refl); same-variable = refl; same-value = inr (refl, refl) })
+alike-places (suc (suc (suc (suc zero)))) h = inl (refl, refl)
+alike-places (suc (suc (suc (suc (suc i))))) h = absurd (omega arith)
+
+stimuli-alike : AlikeStimuli table stimuli₁ stimuli₂
+stimuli-alike = record { equally-long = refl; alike = alike-places }
+
+-- the premises of demand 3 hold, and the secret input ends with two numbers
+pub premises-met : Certifies certifying (certified.Accepted 1)
+    × Benches bench₁ stimuli₁ benched.Accepted
+    × Benches bench₂ stimuli₂ benched.Accepted
+    × AlikeStimuli table stimuli₁ stimuli₂
+    × (getD (bench₁ .output-exit) 0 0 ≡ getD (bench₂ .output-exit) 0 0 → ⊥)
+premises-met = (certified-once, benched₁, benched₂, stimuli-alike, λ e. omega arith)
+
+-- so demand 3 speaks of these calls
+pub claims-met : ClaimsHold table (certifying .output-exit) (bench₁ .output-exit) (bench₂ .output-exit)
+claims-met =
+    two-runs-guaranteed _ _ _ _ _ _ _ _ _ _ _ _ _ _ _ certified-once benched₁ benched₂ stimuli-alike

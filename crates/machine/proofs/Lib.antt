@@ -1,0 +1,10 @@
+pub mod Checking
+pub mod Evaluation
+pub mod Holding
+pub mod Settling
+pub mod Staging
+pub mod Acting
+pub mod Running
+pub mod Promise
+pub mod Fixed
+pub mod Satisfied

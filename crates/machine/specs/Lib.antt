@@ -1,0 +1,5 @@
+pub mod Promise
+pub mod State
+pub mod Staging
+pub mod Ready
+pub mod Answer

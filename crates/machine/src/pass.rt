@@ -1,0 +1,82 @@
+// Passes over the state: what inputs and registers hold at power-on, the wires along their order, and both.
+ghost use mathlib.Core.Path.{_≡_};
+ghost use Prim.Native.Nat.{_*_, _≤_, _<_};
+ghost use lib.ListN.{length, take};
+ghost use Rattle.net.specs.Net as net;
+ghost use Rattle.circuit.specs.declared.refusal.Check.the-variants.{Passed};
+ghost use Rattle.circuit.specs.Circuit.{circuit, recordOf, graph};
+ghost use Rattle.circuit.specs.Checks.{checkRecords};
+ghost use Rattle.circuit.specs.Machine as definition;
+ghost use Rattle.schedule.specs.Schedule.{Ordered};
+ghost use Rattle.machine.specs.State.{state, Holds};
+use circuit::number::wide;
+use circuit::operator::evaluate;
+use circuit::operator::multiplex;
+use circuit::operator::operator_code;
+use circuit::operator::remainder;
+use circuit::record::Record;
+use circuit::record::initial_value;
+use circuit::table::record_at;
+
+// What inputs and registers hold at power-on; wires hold 0 until they settle.
+fn write_initial(t: &[u8], n: usize, values: &mut [u32])
+    requires { ⌜ (n * 16 ≤ length (now t)) × (n ≤ length (now values)) ⌝ }
+    ensures { λ _. ⌜ Holds n (λ v. definition.initial (recordOf (circuit (now (t .entry)) n) v))
+        (now (values .entry)) (now (values .exit)) ⌝ }
+{
+    let mut i: usize = 0;
+    while i < n {
+        values[i] = initial_value(record_at(t, i));
+        i += 1;
+    }
+}
+
+// What variable v's record gives.
+pub fn record_value(t: &[u8], n: usize, values: &[u32], v: usize) -> u32
+    requires { ⌜ (n * 16 ≤ length (now t)) × (n ≤ length (now values)) × (v < n) ⌝ }
+    requires { ⌜ checkRecords (now t) n ≡ Passed ⌝ }
+    ensures { λ r. ⌜ r ≡ definition.values (circuit (now (t .entry)) n) (state (now (values .entry))) v ⌝ }
+{
+    let r = record_at(t, v);
+    match r {
+        Record::Input(_, _) => values[v],
+        Record::Constant(_, value) => value,
+        Record::Operator(w, op, a, b) => {
+            evaluate(operator_code(op), w, values[wide(a)], values[wide(b)])
+        }
+        Record::Multiplexer(w, a, b, c) => {
+            multiplex(w, values[wide(a)], values[wide(b)], values[wide(c)])
+        }
+        Record::Register(w, a, _) => remainder(values[wide(a)], w),
+    }
+}
+
+// The wires take their values, one after the other along their order.
+pub fn settle(t: &[u8], n: usize, scratch: &[u16], wires: usize, values: &mut [u32])
+    requires { ⌜ (n * 16 ≤ length (now t)) × (n ≤ length (now values)) × (wires ≤ length (now scratch)) ⌝ }
+    requires { ⌜ checkRecords (now t) n ≡ Passed ⌝ }
+    requires { ⌜ Ordered (circuit (now t) n) (take wires (now scratch)) ⌝ }
+    ensures { λ _. ⌜ Holds n (net.settle (graph (circuit (now (t .entry)) n))
+        (definition.values (circuit (now (t .entry)) n)) (state (now (values .entry))))
+        (now (values .entry)) (now (values .exit)) ⌝ }
+{
+    let mut i: usize = 0;
+    while i < wires {
+        let v = wide(scratch[i]);
+        let x = record_value(t, n, values, v);
+        values[v] = x;
+        i += 1;
+    }
+}
+
+// The state at power-on.
+pub fn power_on(t: &[u8], n: usize, scratch: &[u16], wires: usize, values: &mut [u32])
+    requires { ⌜ (n * 16 ≤ length (now t)) × (n ≤ length (now values)) × (wires ≤ length (now scratch)) ⌝ }
+    requires { ⌜ checkRecords (now t) n ≡ Passed ⌝ }
+    requires { ⌜ Ordered (circuit (now t) n) (take wires (now scratch)) ⌝ }
+    ensures { λ _. ⌜ Holds n (definition.powerOn (circuit (now (t .entry)) n))
+        (now (values .entry)) (now (values .exit)) ⌝ }
+{
+    write_initial(t, n, values);
+    settle(t, n, scratch, wires, values);
+}

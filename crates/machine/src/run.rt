@@ -1,0 +1,92 @@
+// Stimuli one after another, each on the state that the one before left.
+ghost use mathlib.Core.Path.{_≡_};
+ghost use Prim.Native.Nat.{_+_, _*_, _≤_, _<_};
+ghost use lib.ListN.{length, take};
+ghost use Rattle.net.specs.declared.Stimulus.the-variants.{Poke};
+ghost use Rattle.net.specs.Machine as net;
+ghost use Rattle.circuit.specs.declared.refusal.Check.the-variants.{Passed};
+ghost use Rattle.circuit.specs.declared.stimulus.ReadStimulus.the-variants.{Read};
+ghost use Rattle.circuit.specs.Circuit.{circuit, graph};
+ghost use Rattle.circuit.specs.Checks.{checkRecords};
+ghost use Rattle.circuit.specs.Machine as definition;
+ghost use Rattle.circuit.specs.Stimuli.{stimuli, checkStimulus, checkStimuli};
+ghost use Rattle.schedule.specs.Schedule.{Ordered};
+ghost use Rattle.schedule.specs.Scratch.{KeptOutside};
+ghost use Rattle.machine.specs.State.{state, Holds};
+ghost use Rattle.machine.specs.Ready.{Ready};
+use crate::pass::settle;
+use crate::stimulus::stimulus_at;
+use crate::tick::tick;
+use circuit::number::wide;
+use net::Stimulus;
+
+// A poke sets one input, and the wires follow.
+fn poke(t: &[u8], n: usize, scratch: &[u16], wires: usize, values: &mut [u32], v: usize, x: u32)
+    requires { ⌜ (n * 16 ≤ length (now t)) × (n ≤ length (now values)) × (wires ≤ length (now scratch)) × (v < n) ⌝ }
+    requires { ⌜ checkRecords (now t) n ≡ Passed ⌝ }
+    requires { ⌜ Ordered (circuit (now t) n) (take wires (now scratch)) ⌝ }
+    ensures { λ _. ⌜ Holds n (net.act (graph (circuit (now (t .entry)) n))
+        (definition.values (circuit (now (t .entry)) n)) (Poke v x) (state (now (values .entry))))
+        (now (values .entry)) (now (values .exit)) ⌝ }
+{
+    values[v] = x;
+    settle(t, n, scratch, wires, values);
+}
+
+// One stimulus that meets none of grounds 15 to 17.
+fn act(
+    t: &[u8],
+    n: usize,
+    scratch: &mut [u16],
+    wires: usize,
+    registers: usize,
+    values: &mut [u32],
+    stimulus: Stimulus,
+)
+    requires { ⌜ Ready (now t) n (now scratch) wires registers ⌝ }
+    requires { ⌜ n ≤ length (now values) ⌝ }
+    requires { ⌜ checkStimulus (circuit (now t) n) (Read stimulus) 0 ≡ Passed ⌝ }
+    ensures { λ _. ⌜ KeptOutside (n + n) (n * 4) (now (scratch .entry)) (now (scratch .exit)) ⌝ }
+    ensures { λ _. ⌜ Holds n (net.act (graph (circuit (now (t .entry)) n))
+        (definition.values (circuit (now (t .entry)) n)) stimulus (state (now (values .entry))))
+        (now (values .entry)) (now (values .exit)) ⌝ }
+{
+    match stimulus {
+        Stimulus::Poke(v, x) => poke(t, n, scratch, wires, values, wide(v), x),
+        Stimulus::Tick => tick(t, n, scratch, wires, registers, values),
+    }
+}
+
+// All stimuli of a list that meets none of grounds 12 to 17.
+pub fn run(
+    t: &[u8],
+    n: usize,
+    s: &[u8],
+    scratch: &mut [u16],
+    wires: usize,
+    registers: usize,
+    values: &mut [u32],
+)
+    requires { ⌜ Ready (now t) n (now scratch) wires registers ⌝ }
+    requires { ⌜ n ≤ length (now values) ⌝ }
+    requires { ⌜ checkStimuli (circuit (now t) n) (now s) ≡ Passed ⌝ }
+    ensures { λ _. ⌜ KeptOutside (n + n) (n * 4) (now (scratch .entry)) (now (scratch .exit)) ⌝ }
+    ensures { λ _. ⌜ Holds n (net.run (graph (circuit (now (t .entry)) n))
+        (definition.values (circuit (now (t .entry)) n)) (stimuli (now (s .entry))) (state (now (values .entry))))
+        (now (values .entry)) (now (values .exit)) ⌝ }
+{
+    let count = s.len() / 8;
+    let mut i: usize = 0;
+    while i < count {
+        act(
+            t,
+            n,
+            scratch,
+            wires,
+            registers,
+            values,
+            stimulus_at(s, i * 8),
+        );
+        i += 1;
+    }
+}

@@ -1,0 +1,65 @@
+// A stimulus from its 8 bytes: what it reads as, with ground 14 and without a check.
+ghost use mathlib.Core.Path.{_≡_};
+ghost use mathlib.Core.Bool.{not, _&&_, _||_};
+ghost use Prim.Native.Nat.{_+_, _≤_};
+ghost use lib.Dec.{eqb, ltb};
+ghost use lib.ListN.{length};
+ghost use Rattle.circuit.specs.Stimuli.{stimulusOf, stimulusAt, readStimulus};
+use circuit::number::u16_at;
+use circuit::number::u32_at;
+use circuit::refusal::Ground;
+use circuit::stimulus::ReadStimulus;
+use net::Stimulus;
+
+// Ground 14: the kind, byte 1, and a tick's variable and value.
+fn bad_stimulus(kind: u8, byte1: u8, v: u16, x: u32) -> bool
+    ensures { λ r. ⌜ r ≡ (ltb 1 kind || not (eqb byte1 0) || (eqb kind 1 && not (eqb v 0 && eqb x 0))) ⌝ }
+{
+    if 1 < kind {
+        return true;
+    }
+    if byte1 != 0 {
+        return true;
+    }
+    if kind != 1 {
+        return false;
+    }
+    if v != 0 {
+        return true;
+    }
+    if x != 0 {
+        return true;
+    }
+    false
+}
+
+fn stimulus_of(kind: u8, v: u16, x: u32) -> Stimulus
+    ensures { λ r. ⌜ r ≡ stimulusOf kind v x ⌝ }
+{
+    if kind == 0 {
+        return Stimulus::Poke(v, x);
+    }
+    Stimulus::Tick
+}
+
+// The stimulus of the 8 bytes from a place on, without a check.
+pub fn stimulus_at(s: &[u8], at: usize) -> Stimulus
+    requires { ⌜ at + 8 ≤ length (now s) ⌝ }
+    ensures { λ r. ⌜ r ≡ stimulusAt (now (s .entry)) at ⌝ }
+{
+    stimulus_of(s[at], u16_at(s, at + 2), u32_at(s, at + 4))
+}
+
+// The stimulus of the 8 bytes from a place on, or ground 14.
+pub fn read_stimulus(s: &[u8], at: usize) -> ReadStimulus
+    requires { ⌜ at + 8 ≤ length (now s) ⌝ }
+    ensures { λ r. ⌜ r ≡ readStimulus (now (s .entry)) at ⌝ }
+{
+    let kind = s[at];
+    let v = u16_at(s, at + 2);
+    let x = u32_at(s, at + 4);
+    if bad_stimulus(kind, s[at + 1], v, x) {
+        return ReadStimulus::Refused(Ground::BadStimulus);
+    }
+    ReadStimulus::Read(stimulus_of(kind, v, x))
+}

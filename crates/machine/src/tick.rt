@@ -1,0 +1,73 @@
+// A tick: the registers' next values are staged, all from the same state, and then written together; the wires follow.
+ghost use Prim.Native.Nat.{_+_, _*_, _≤_};
+ghost use lib.ListN.{length};
+ghost use Rattle.net.specs.declared.Stimulus.the-variants.{Tick};
+ghost use Rattle.net.specs.Net.{step};
+ghost use Rattle.net.specs.Machine as net;
+ghost use Rattle.circuit.specs.Circuit.{circuit, graph};
+ghost use Rattle.circuit.specs.Machine as definition;
+ghost use Rattle.schedule.specs.Scratch.{KeptOutside};
+ghost use Rattle.machine.specs.State.{state, Holds};
+ghost use Rattle.machine.specs.Staging.{StagedTo};
+ghost use Rattle.machine.specs.Ready.{Ready};
+use crate::halves::load;
+use crate::halves::store;
+use crate::pass::record_value;
+use crate::pass::settle;
+use circuit::number::wide;
+
+// Stages the registers' next values.
+fn stage(t: &[u8], n: usize, scratch: &mut [u16], wires: usize, registers: usize, values: &[u32])
+    requires { ⌜ Ready (now t) n (now scratch) wires registers ⌝ }
+    requires { ⌜ n ≤ length (now values) ⌝ }
+    ensures { λ _. ⌜ KeptOutside (n + n) (n * 4) (now (scratch .entry)) (now (scratch .exit)) ⌝ }
+    ensures { λ _. ⌜ StagedTo (circuit (now (t .entry)) n) (state (now (values .entry)))
+        (now (scratch .exit)) (n + n) registers ⌝ }
+{
+    let mut j: usize = 0;
+    while j < registers {
+        let v = wide(scratch[wires + j]);
+        let x = record_value(t, n, values, v);
+        store(scratch, n + n + j * 2, x);
+        j += 1;
+    }
+}
+
+// Writes the staged values, all together. The table is there for the contract alone.
+fn commit(t: &[u8], n: usize, scratch: &[u16], wires: usize, registers: usize, values: &mut [u32])
+    requires { ⌜ Ready (now t) n (now scratch) wires registers ⌝ }
+    requires { ⌜ n ≤ length (now values) ⌝ }
+    requires { ⌜ StagedTo (circuit (now t) n) (state (now values)) (now scratch) (n + n) registers ⌝ }
+    ensures { λ _. ⌜ Holds n (step (graph (circuit (now (t .entry)) n)) (definition.values (circuit (now (t .entry)) n))
+        (state (now (values .entry))))
+        (now (values .entry)) (now (values .exit)) ⌝ }
+{
+    let mut j: usize = 0;
+    while j < registers {
+        let v = wide(scratch[wires + j]);
+        let x = load(scratch, n + n + j * 2);
+        values[v] = x;
+        j += 1;
+    }
+}
+
+// A tick.
+pub fn tick(
+    t: &[u8],
+    n: usize,
+    scratch: &mut [u16],
+    wires: usize,
+    registers: usize,
+    values: &mut [u32],
+)
+    requires { ⌜ Ready (now t) n (now scratch) wires registers ⌝ }
+    requires { ⌜ n ≤ length (now values) ⌝ }
+    ensures { λ _. ⌜ KeptOutside (n + n) (n * 4) (now (scratch .entry)) (now (scratch .exit)) ⌝ }
+    ensures { λ _. ⌜ Holds n (net.act (graph (circuit (now (t .entry)) n))
+        (definition.values (circuit (now (t .entry)) n)) Tick (state (now (values .entry))))
+        (now (values .entry)) (now (values .exit)) ⌝ }
+{
+    stage(t, n, scratch, wires, registers, values);
+    commit(t, n, scratch, wires, registers, values);
+    settle(t, n, scratch, wires, values);
+}
