@@ -23,7 +23,8 @@ use Rattle.circuit.specs.Record.{width, inputOf}
 use Rattle.circuit.specs.Reading.{fieldsAt, readRecord}
 use Rattle.circuit.specs.Circuit.{Circuit, recordOf}
 use Rattle.circuit.specs.Checks.{checkLength, checkOutput, checkScratch, atRecord, checkRecordsFrom, checkRecords, checkCall}
-use Rattle.circuit.specs.Stimuli.{isInput, fixedToOther, readStimulus, checkStimulus, checkStimuliFrom, checkStimuli}
+use Rattle.circuit.specs.Stimuli.{isInput, fixedToOther, readStimulus}
+use Rattle.circuit.specs.Stimuli.{checkStimulus, checkStimuliFrom, checkStimuli}
 use Rattle.circuit.proofs.Passing.{length-most}
 
 -- the grounds in the order of their numbers, from number 1 on
