@@ -1,8 +1,8 @@
 /* Certificates over lambda-C tables, and the bench beside them, as a static library (rt staticlib capi writes
  * target/staticlib/libcapi.a).
  *
- * A call reads `table` and writes to the buffers that it is lent; no two of the buffers may overlap. Every input gets an
- * answer: bad input is refused with a ground and a place, and no output byte is then changed. */
+ * A call reads `table` and writes to the buffers that it is lent; no two of the buffers may overlap. Every input gets
+ * an answer: bad input is refused with a ground and a place, and no output byte is then changed. */
 #ifndef LAMBDAC_H
 #define LAMBDAC_H
 
@@ -22,9 +22,9 @@ uint64_t lambdac_certify(const uint8_t *table, size_t table_len, uint8_t *certif
 
 /* Runs a list of 8-byte stimuli on a table of 16-byte records, from power-on. Asks for one 32-bit number of values and
  * four 16-bit numbers of scratch a record. Returns 0 where the table and the list are accepted, and number i of the
- * values is then what variable i holds after the last stimulus; else ground * 2^32 + place. The list is read whole before
- * anything acts: a refused one changes no value. For ground 11 the place is the length of the loop that stands at the
- * front of the scratch. */
+ * values is then what variable i holds after the last stimulus; else ground * 2^32 + place. The list is read whole
+ * before anything acts: a refused one changes no value. For ground 11 the place is the length of the loop that stands
+ * at the front of the scratch. */
 uint64_t lambdac_bench(const uint8_t *table, size_t table_len, const uint8_t *stimuli, size_t stimuli_len,
                        uint32_t *values, size_t values_len, uint16_t *scratch, size_t scratch_len);
 

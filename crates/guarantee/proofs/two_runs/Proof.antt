@@ -34,13 +34,14 @@ same-length-6 c = search needs
 
 returns : tie.Need-returns
 returns c =
-    let ran = c .before .before .before .before in
-    let before = ran .before .before .before .before .before .before .before in
-    let start = before .before .before .before .before .before .before .before in
-    let x = start .before .before .before .before .before .before .before .before .before .before .before .before .args in
-    let certified = start .certify in
-    let first = before .bench in
-    let second = ran .bench2 in
+    let ran₂ = c .before .before .before .before in
+    let ran₁ = ran₂ .before .before .before .before .before .before .before in
+    let certifying = ran₁ .before .before .before .before .before .before .before in
+    let entry = certifying .before .before .before .before .before .before .before .before .before .before .before .before in
+    let x = entry .args in
+    let certified = certifying .certify in
+    let first = ran₁ .bench in
+    let second = ran₂ .bench2 in
     calls-guaranteed (x .table .now) (x .certificate .now) (x .scratch .now) (certified .last .1 .0)
     (certified .last .1 .1 .0) (x .values1 .now) (x .scratch1 .now) (first .last .1 .1 .0) (first .last .1 .1 .1 .0)
     (x .stimuli1 .now) (x .values2 .now) (x .scratch2 .now) (second .last .1 .1 .0) (second .last .1 .1 .1 .0)

@@ -23,12 +23,13 @@ power-on-requires c κs = search needs
 
 run-requires : tie.Need-run-requires
 run-requires c κs =
-    let read = c .before .before .before .before .before .before .before .before .before in
+    let told = c .before .before .before .before .before .before .before in
+    let read = told .before .before in
     let p = read .before .before .before .before .before .pre in (
       p .0,
       (
         omega (arith, p .1, c .before .before .before .before .power-on .ensures .kept .long),
-        sym (read .check-stimuli .ensures) ∙ c .before .before .before .before .before .before .before .enum-told .given .1,
+        sym (read .check-stimuli .ensures) ∙ told .enum-told .given .1,
       ),
     )
 

@@ -4,7 +4,8 @@ use mathlib.Core.Path.{_∙_}
 use native.Mathlib.Omega.{arith}
 use Rattle.circuit.specs.Circuit.{circuit}
 use Rattle.circuit.proofs.Operands.{record-here, width-here, operator-uses, multiplexer-uses, register-uses}
-use Rattle.machine.proofs.Evaluation.{input-value, constant-value, operator-value, multiplexer-value, register-value}
+use Rattle.machine.proofs.Evaluation.{input-value, constant-value, operator-value}
+use Rattle.machine.proofs.Evaluation.{multiplexer-value, register-value}
 use borrow.Author.Needs.{needs}
 use Rattle.machine.proofs.pass.record_value.Statement.{statement}
 use Rattle.machine.proofs.pass.record_value.Tie as tie

@@ -42,7 +42,7 @@ act-requires c κs =
       (
         omega (arith, p .1 .0, l .loop .inv .1 .kept .long),
         subst (λ (y : Stimulus). checkStimulus C (Read y) 0 ≡ Passed) (sym (c .stimulus-at .ensures))
-            (stimulus-passed C (x .s .now) (p .1 .1) (l .loop .i) (c .before .before .before .loop-test .taken)),
+            (stimulus-passed C (x .s .now) (p .1 .1) (l .loop .i) (omega arith)),
       ),
     )
 
@@ -57,8 +57,7 @@ loop-again c =
     let l = c .before .before .before .before .before .before .before .before .before in
     let x = l .before .before .before .before .before .args in (
       omega arith,
-      one-ran (l .loop .inv .1)
-          (c .before .before .before .before .before .before .before .before .loop-test .taken)
+      one-ran (l .loop .inv .1) (omega arith)
           (c .before .before .before .before .act .ensures .0)
           (act-same (circuit (x .t .now) (x .n)) (l .loop .values)
           (c .before .before .before .before .before .stimulus-at .ensures)
