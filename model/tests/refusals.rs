@@ -3,34 +3,16 @@
 
 mod common;
 
+use common::samples::{one_of_each, CONSTANT, FIXED, FREE, MULTIPLEXER, OPERATOR, REGISTER, SECRET};
 use common::{
     bench_longer, bench_on, certify_longer, certify_on, constant, fixed, free, multiplexer, operator,
-    poke_bytes, record, register, secret, RecordBytes, Refused, TICK,
+    poke_bytes, record, register, RecordBytes, Refused, TICK,
 };
 use model::{is_loop, Operator::Add};
 
-/// One record of each sort that grounds 7 to 10 tell apart, and no loop.
-const GOOD: [fn() -> RecordBytes; 7] = [
-    || fixed(4, 9),
-    || free(4),
-    || secret(4),
-    || constant(4, 15),
-    || operator(Add, 4, 0, 1),
-    || multiplexer(4, 0, 1, 2),
-    || register(4, 1, 5),
-];
-
-/// The places of the records of `GOOD` that tests damage by name.
-const FIXED: usize = 0;
-const FREE: usize = 1;
-const CONSTANT: usize = 3;
-const OPERATOR: usize = 4;
-const MULTIPLEXER: usize = 5;
-const REGISTER: usize = 6;
-
-/// The good table with changes: (record, byte, what the byte becomes).
+/// The table of one record of each sort with changes: (record, byte, what the byte becomes).
 fn with(changes: &[(usize, usize, u8)]) -> Vec<u8> {
-    let mut records = GOOD.map(|record| record());
+    let mut records = one_of_each();
     for &(place, byte, becomes) in changes {
         records[place][byte] = becomes;
     }
@@ -60,7 +42,7 @@ fn assert_bench_refused(table: &[u8], stimuli: &[u8], ground: u32, place: usize)
 }
 
 #[test]
-fn the_good_table_is_accepted() {
+fn one_record_of_each_sort_is_accepted() {
     assert!(certify_longer(&with(&[]), 0).is_ok());
     assert!(bench_longer(&with(&[]), &[], 0).is_ok());
 }
@@ -126,7 +108,7 @@ fn ground_4_before_5_and_11() {
 
 #[test]
 fn ground_5() {
-    for place in 0..GOOD.len() {
+    for place in 0..one_of_each().len() {
         for kind in [5, 6, 128, 255] {
             assert_refused(&with(&[(place, 0, kind)]), 5, place);
         }
@@ -135,7 +117,7 @@ fn ground_5() {
 
 #[test]
 fn ground_6() {
-    for place in 0..GOOD.len() {
+    for place in 0..one_of_each().len() {
         for width in [0, 33, 64, 255] {
             assert_refused(&with(&[(place, 1, width)]), 6, place);
         }
@@ -151,8 +133,8 @@ fn widths_1_and_32_are_accepted() {
 
 #[test]
 fn ground_7() {
-    for (place, record) in GOOD.iter().enumerate() {
-        let limit = match record()[0] {
+    for (place, record) in one_of_each().iter().enumerate() {
+        let limit = match record[0] {
             0 => 3,
             2 => 9,
             _ => 1,
@@ -172,7 +154,7 @@ fn every_operator_code_is_accepted() {
 
 #[test]
 fn ground_8_bytes_that_are_always_0() {
-    for place in 0..GOOD.len() {
+    for place in 0..one_of_each().len() {
         for byte in [3, 10, 11] {
             for becomes in [1, 128, 255] {
                 assert_refused(&with(&[(place, byte, becomes)]), 8, place);
@@ -183,8 +165,7 @@ fn ground_8_bytes_that_are_always_0() {
 
 #[test]
 fn ground_8_unused_variable_numbers_and_values() {
-    for (place, record) in GOOD.iter().enumerate() {
-        let record = record();
+    for (place, record) in one_of_each().iter().enumerate() {
         let (first_unused, has_value) = match (record[0], record[2]) {
             (0, choice) => (4, choice == 0),
             (1, _) => (4, true),
@@ -209,7 +190,7 @@ fn a_value_is_unused_once_a_fixed_input_is_free_or_secret() {
 
 #[test]
 fn ground_9() {
-    let n = GOOD.len() as u8;
+    let n = one_of_each().len() as u8;
     let used = [(OPERATOR, &[4, 6][..]), (MULTIPLEXER, &[4, 6, 8]), (REGISTER, &[4])];
     for (place, bytes) in used {
         for &byte in bytes {
@@ -373,7 +354,7 @@ fn ground_14_before_15() {
 
 #[test]
 fn ground_15_before_16() {
-    for variable in [CONSTANT, OPERATOR, MULTIPLEXER, REGISTER, GOOD.len(), 65_535] {
+    for variable in [CONSTANT, OPERATOR, MULTIPLEXER, REGISTER, one_of_each().len(), 65_535] {
         for n in [0, 15, 16, u32::MAX] {
             assert_bench_refused(&with(&[]), &poke_bytes(variable as u16, n), 15, 0);
         }
@@ -382,7 +363,7 @@ fn ground_15_before_16() {
 
 #[test]
 fn ground_16() {
-    for variable in [FREE, 2] {
+    for variable in [FREE, SECRET] {
         for n in [16, 65_536, u32::MAX] {
             let stimuli = [poke_bytes(FREE as u16, 15), TICK, poke_bytes(variable as u16, n)];
             assert_bench_refused(&with(&[]), stimuli.as_flattened(), 16, 2);

@@ -11,6 +11,17 @@ extern "C" {
         scratch: *mut u16,
         scratch_len: usize,
     ) -> u64;
+
+    fn lambdac_bench(
+        table: *const u8,
+        table_len: usize,
+        stimuli: *const u8,
+        stimuli_len: usize,
+        values: *mut u32,
+        values_len: usize,
+        scratch: *mut u16,
+        scratch_len: usize,
+    ) -> u64;
 }
 
 /// The archive's certifying call: the count of rounds, or the refusal.
@@ -27,6 +38,24 @@ pub fn certify(table: &[u8], certificate: &mut [u8], scratch: &mut [u16]) -> Res
         )
     };
     unpacked(answer)
+}
+
+/// The archive's bench call: nothing but that it is accepted, or the refusal.
+pub fn bench(table: &[u8], stimuli: &[u8], values: &mut [u32], scratch: &mut [u16]) -> Result<(), Refusal> {
+    // SAFETY: each pointer and length are those of one slice, and a slice lent to be written overlaps none.
+    let answer = unsafe {
+        lambdac_bench(
+            table.as_ptr(),
+            table.len(),
+            stimuli.as_ptr(),
+            stimuli.len(),
+            values.as_mut_ptr(),
+            values.len(),
+            scratch.as_mut_ptr(),
+            scratch.len(),
+        )
+    };
+    unpacked(answer).map(|number| assert_eq!(number, 0, "an accepted bench call returns 0"))
 }
 
 /// The number of an accepted call; or the refusal, which is packed as ground * 2^32 + place.

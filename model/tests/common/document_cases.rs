@@ -1,10 +1,6 @@
-//! Document 01's cases A to M, each with all that the program certify prints for it, and the answer of a
-//! call as that text.
+//! Document 01's cases A to M, each with all that the program certify prints for it.
 
-use super::{
-    constant, fixed, free, multiplexer, operator, register, secret, Answer, RecordBytes, Refused, Table,
-};
-use model::Fact;
+use super::{constant, fixed, free, multiplexer, operator, register, secret, RecordBytes, Table};
 use model::Operator::{Add, Equal, ShiftLeft, Subtract, Xor};
 
 /// A case: its table, and all that is printed for it.
@@ -23,28 +19,30 @@ fn case(name: &'static str, records: Table, printed: &'static str) -> Case {
     Case { name, table: records.as_flattened().to_vec(), printed }
 }
 
+/// The table of case A with this record 1.
+pub fn case_a(record_1: RecordBytes) -> [RecordBytes; 7] {
+    [
+        secret(8),
+        record_1,
+        constant(8, 5),
+        register(8, 0, 4),
+        multiplexer(8, 1, 5, 3),
+        operator(Add, 8, 3, 2),
+        operator(Equal, 1, 0, 2),
+    ]
+}
+
 /// Cases A to D, which differ in record 1.
 fn variations_of_a() -> Vec<Case> {
-    let with = |record_1: RecordBytes| {
-        vec![
-            secret(8),
-            record_1,
-            constant(8, 5),
-            register(8, 0, 4),
-            multiplexer(8, 1, 5, 3),
-            operator(Add, 8, 3, 2),
-            operator(Equal, 1, 0, 2),
-        ]
-    };
     let a = "rounds 1\n0 marked\n1 open\n2 always 5\n3 open\n4 open\n5 open\n6 marked\n";
     let b = "rounds 0\n0 marked\n1 always 0\n2 always 5\n3 always 0\n4 always 0\n5 always 5\n6 marked\n";
     let c = "rounds 1\n0 marked\n1 always 1\n2 always 5\n3 open\n4 open\n5 open\n6 marked\n";
     let d = "rounds 1\n0 marked\n1 marked\n2 always 5\n3 marked\n4 marked\n5 marked\n6 marked\n";
     vec![
-        case("A", with(free(1)), a),
-        case("B", with(fixed(1, 0)), b),
-        case("C", with(fixed(1, 1)), c),
-        case("D", with(secret(1)), d),
+        case("A", case_a(free(1)).to_vec(), a),
+        case("B", case_a(fixed(1, 0)).to_vec(), b),
+        case("C", case_a(fixed(1, 1)).to_vec(), c),
+        case("D", case_a(secret(1)).to_vec(), d),
     ]
 }
 
@@ -94,24 +92,4 @@ fn loops_and_values() -> Vec<Case> {
         case("M, 255", vec![constant(8, 255)], "rounds 0\n0 always 255\n"),
         case("M, 256", vec![constant(8, 256)], "refused 10 at 0\n"),
     ]
-}
-
-/// The lines that the program certify prints for an answer.
-pub fn printed(answer: &Answer) -> String {
-    match answer {
-        Ok((count, facts)) => {
-            let line = |(variable, fact): (usize, &Fact)| match fact {
-                Fact::Always(n) => format!("{variable} always {n}\n"),
-                Fact::Open => format!("{variable} open\n"),
-                Fact::Marked => format!("{variable} marked\n"),
-            };
-            let lines: String = facts.iter().enumerate().map(line).collect();
-            format!("rounds {count}\n{lines}")
-        }
-        Err(Refused { ground, place, row }) => {
-            let row: Vec<String> = row.iter().map(|variable| variable.to_string()).collect();
-            let line = if *ground == 11 { row.join(" ") + "\n" } else { String::new() };
-            format!("refused {ground} at {place}\n{line}")
-        }
-    }
 }

@@ -1,14 +1,20 @@
 //! What the tests share: records and stimuli from their fields, a seeded generator of random numbers, and
 //! the two calls made on buffers whose contents are checked afterwards by document 01's clauses.
 //! Random tables and lists come from `tables`, and tables of one shape from `shapes`; document 01's cases
-//! are in `document_cases`, and further tables in `samples`.
+//! are in `document_cases`, further tables in `samples`, what meets a set of grounds in `grounds`, and bench
+//! runs in `hand_runs`. `printed` has the lines that the programs print, and `two_runs` tries demand 3 on
+//! any two calls.
 
 #![allow(dead_code)] // each test file uses a part
 
 pub mod document_cases;
+pub mod grounds;
+pub mod hand_runs;
+pub mod printed;
 pub mod samples;
 pub mod shapes;
 pub mod tables;
+pub mod two_runs;
 
 use model::{bench, certify, is_loop, Fact, Operator, Refusal};
 
@@ -18,8 +24,14 @@ pub type RecordBytes = [u8; 16];
 /// The records of a table.
 pub type Table = Vec<RecordBytes>;
 
+/// The 8 bytes of a stimulus.
+pub type StimulusBytes = [u8; 8];
+
 /// The most records that a table can have.
 pub const MOST_RECORDS: u16 = 4096;
+
+/// The most stimuli that a list can have.
+pub const MOST_STIMULI: usize = 4096;
 
 /// The 16 bytes of a record from its fields, the bytes that must be 0 left 0.
 pub fn record(kind: u8, width: u8, choice: u8, variables: [u16; 3], n: u32) -> RecordBytes {
@@ -69,7 +81,7 @@ pub fn register(w: u8, power_on: u32, a: u16) -> RecordBytes {
 }
 
 /// The 8 bytes of a poke.
-pub fn poke_bytes(variable: u16, n: u32) -> [u8; 8] {
+pub fn poke_bytes(variable: u16, n: u32) -> StimulusBytes {
     let mut bytes = [0; 8];
     bytes[2..4].copy_from_slice(&variable.to_le_bytes());
     bytes[4..].copy_from_slice(&n.to_le_bytes());
@@ -77,7 +89,7 @@ pub fn poke_bytes(variable: u16, n: u32) -> [u8; 8] {
 }
 
 /// The 8 bytes of a tick.
-pub const TICK: [u8; 8] = [1, 0, 0, 0, 0, 0, 0, 0];
+pub const TICK: StimulusBytes = [1, 0, 0, 0, 0, 0, 0, 0];
 
 /// Random numbers from a seed, by splitmix64.
 pub struct Random(u64);
@@ -156,7 +168,7 @@ pub fn certify_on(table: &[u8], certificate: usize, scratch: usize) -> Answer {
     let row = check_scratch(table, answer, &scratch_before, &scratch_after);
     let count = answer.map_err(|refusal| refused(refusal, row))?;
     after.truncate(table.len() / 16 * 8);
-    Ok((count, after.chunks(8).map(fact_of).collect()))
+    Ok((count, facts_of(&after)))
 }
 
 /// The certifying call on buffers as long as asked and so many longer.
@@ -165,9 +177,11 @@ pub fn certify_longer(table: &[u8], longer: usize) -> Answer {
     certify_on(table, n * 8 + longer, n * 4 + longer)
 }
 
-/// The bench call on buffers of these lengths: the values, or the refusal. What document 01 says of the
-/// buffers is checked.
-pub fn bench_on(table: &[u8], stimuli: &[u8], values: usize, scratch: usize) -> Result<Vec<u32>, Refused> {
+/// What the bench call answers: the values, or the refusal.
+pub type Values = Result<Vec<u32>, Refused>;
+
+/// The bench call on buffers of these lengths. What document 01 says of the buffers is checked.
+pub fn bench_on(table: &[u8], stimuli: &[u8], values: usize, scratch: usize) -> Values {
     let before: Vec<u32> = noise(values).map(|number| u32::from(number) * 65_537).collect();
     let scratch_before: Vec<u16> = noise(scratch).collect();
     let (mut after, mut scratch_after) = (before.clone(), scratch_before.clone());
@@ -180,7 +194,7 @@ pub fn bench_on(table: &[u8], stimuli: &[u8], values: usize, scratch: usize) -> 
 }
 
 /// The bench call on buffers as long as asked and so many longer.
-pub fn bench_longer(table: &[u8], stimuli: &[u8], longer: usize) -> Result<Vec<u32>, Refused> {
+pub fn bench_longer(table: &[u8], stimuli: &[u8], longer: usize) -> Values {
     let n = table.len() / 16;
     bench_on(table, stimuli, n + longer, n * 4 + longer)
 }
@@ -228,6 +242,11 @@ fn check_scratch<T>(table: &[u8], answer: Result<T, Refusal>, before: &[u16], af
     let (row, rest) = part.split_at(length);
     assert!(rest.iter().all(|&number| number == 0), "the rest of the scratch's part");
     row.to_vec()
+}
+
+/// The facts in a certificate.
+pub fn facts_of(certificate: &[u8]) -> Vec<Fact> {
+    certificate.chunks(8).map(fact_of).collect()
 }
 
 /// The fact in the 8 bytes of a variable.

@@ -1,14 +1,55 @@
 //! Sample tables: orders and loops of several shapes, each field of each kind of record damaged, and several
-//! grounds at once. Each that meets none of grounds 1 to 10 has one order of its wires or one loop.
+//! grounds at once. Each that meets none of grounds 1 to 10 has one order of its wires or one loop. Apart
+//! from these: a table of one record of each sort, and one of every rule.
 
 use super::{
     constant, fixed, free, multiplexer, operator, register, secret, RecordBytes, Table, MOST_RECORDS,
 };
-use model::{read_records, Operator};
+use model::{read_records, remainder, Operator};
 
 /// An add of width 8 that uses a variable twice.
 pub fn add(variable: u16) -> RecordBytes {
     operator(Operator::Add, 8, variable, variable)
+}
+
+/// One record of each sort that grounds 7 to 10 and 15 to 17 tell apart, and no loop.
+pub fn one_of_each() -> [RecordBytes; 7] {
+    [
+        fixed(4, 9),
+        free(4),
+        secret(4),
+        constant(4, 15),
+        operator(Operator::Add, 4, 0, 1),
+        multiplexer(4, 0, 1, 2),
+        register(4, 1, 5),
+    ]
+}
+
+/// The places of the records of `one_of_each`.
+pub const FIXED: usize = 0;
+pub const FREE: usize = 1;
+pub const SECRET: usize = 2;
+pub const CONSTANT: usize = 3;
+pub const OPERATOR: usize = 4;
+pub const MULTIPLEXER: usize = 5;
+pub const REGISTER: usize = 6;
+
+/// Boundary values of the rules, the shifts' among them.
+pub const BOUNDARY_VALUES: [u32; 7] = [0, 1, 5, 31, 32, 1 << 31, u32::MAX];
+
+/// Every rule on every choice of operands, with results of width w. The operands are a fixed input for each
+/// of the boundary values, then a free and a secret one.
+pub fn every_rule(w: u8) -> Table {
+    let inputs = [&BOUNDARY_VALUES.map(|n| fixed(32, n))[..], &[free(32), secret(32)]].concat();
+    let all = 0..inputs.len() as u16;
+    let pairs: Vec<(u16, u16)> = all.clone().flat_map(|a| all.clone().map(move |b| (a, b))).collect();
+    let operators = Operator::BY_CODE.into_iter();
+    let operators = operators.flat_map(|code| pairs.iter().map(move |&(a, b)| operator(code, w, a, b)));
+    let multiplexers = all.clone().flat_map(|a| pairs.iter().map(move |&(b, c)| multiplexer(w, a, b, c)));
+    let power_ons = [0, 1, remainder(u32::MAX, u32::from(w))];
+    let registers = all.flat_map(|a| power_ons.map(|n| register(w, n, a)));
+    let records: Table = operators.chain(multiplexers).chain(registers).collect();
+    [inputs, records].concat()
 }
 
 /// Every sample.

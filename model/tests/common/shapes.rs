@@ -3,9 +3,11 @@
 //! a register's, and can then be put in another order.
 
 use super::tables::{
-    random_kind, random_record, random_table, random_use, random_width, renumbered, MIXTURES, WIDTHS,
+    random_kind, random_record, random_stimuli, random_table, random_use, random_width, renumbered,
+    MIXTURES, WIDTHS,
 };
 use super::{constant, multiplexer, register, secret, Random, RecordBytes, Table};
+use model::read_records;
 use std::ops::Range;
 
 /// The kinds of a chain of wires, of which few are inputs or constants.
@@ -31,6 +33,13 @@ pub fn random_shape(random: &mut Random, n: usize, loops: bool) -> Table {
         rewire(random, &mut table);
     }
     in_some_order(random, &table)
+}
+
+/// A random table of n records of a random shape, some with a loop, and a list of so many stimuli for it.
+pub fn random_pair(random: &mut Random, n: usize, length: usize) -> (Vec<u8>, Vec<u8>) {
+    let table = random_shape(random, n, true).as_flattened().to_vec();
+    let list = random_stimuli(random, &read_records(&table).unwrap(), length);
+    (table, list.as_flattened().to_vec())
 }
 
 /// Layers of a random size: a record uses those of the layer before.

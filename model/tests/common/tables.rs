@@ -1,8 +1,8 @@
 //! Random tables, random lists of stimuli, and damage to both.
 
 use super::{
-    constant, fixed, free, multiplexer, operator, poke_bytes, register, secret, Random, RecordBytes, Table,
-    TICK,
+    constant, fixed, free, multiplexer, operator, poke_bytes, register, secret, Random, RecordBytes,
+    StimulusBytes, Table, TICK,
 };
 use model::{remainder, InputKind, Operator, Record};
 
@@ -108,7 +108,7 @@ pub fn renumbered(table: &[RecordBytes], to: &[usize]) -> Table {
 }
 
 /// A list of stimuli that the bench accepts on these records: pokes of their inputs, and ticks.
-pub fn random_stimuli(random: &mut Random, records: &[Record], length: usize) -> Vec<[u8; 8]> {
+pub fn random_stimuli(random: &mut Random, records: &[Record], length: usize) -> Vec<StimulusBytes> {
     let is_input = |i: &usize| matches!(records[*i], Record::Input { .. });
     let inputs: Vec<usize> = (0..records.len()).filter(is_input).collect();
     let one = |random: &mut Random| {
@@ -130,8 +130,12 @@ fn random_poked(random: &mut Random, record: &Record) -> u32 {
 }
 
 /// The list with other values poked into secret inputs, and otherwise the same.
-pub fn other_secrets(random: &mut Random, records: &[Record], list: &[[u8; 8]]) -> Vec<[u8; 8]> {
-    let one = |stimulus: &[u8; 8]| {
+pub fn other_secrets(
+    random: &mut Random,
+    records: &[Record],
+    list: &[StimulusBytes],
+) -> Vec<StimulusBytes> {
+    let one = |stimulus: &StimulusBytes| {
         let variable = u16::from_le_bytes([stimulus[2], stimulus[3]]);
         match records.get(usize::from(variable)) {
             Some(record @ Record::Input { kind: InputKind::Secret, .. }) if stimulus[0] == 0 => {

@@ -1,9 +1,11 @@
 //! Buffers lent to a call, and a call of the archive held against the model's on equal buffers. A buffer
 //! lies in memory that no call may touch, all of it filled with noise at entry.
 
+pub mod answers;
+
 use crate::common::{assert_shows_loop, noise, Random};
 use model::Refusal;
-use std::fmt::Debug;
+use std::fmt::{Debug, Display, Formatter};
 
 /// How many 16-bit numbers of scratch ground 4 asks for.
 fn scratch_asked(table: &[u8]) -> usize {
@@ -22,6 +24,12 @@ impl Lengths {
     /// What is asked for a table when the output takes so much a record.
     pub fn asked(table: &[u8], output_a_record: usize) -> Lengths {
         Lengths { output: table.len() / 16 * output_a_record, scratch: scratch_asked(table), margin: 3 }
+    }
+
+    /// Lengths that meet those of grounds 3 and 4 that are to be met, by one.
+    pub fn that_meet(self, meets: impl Fn(u32) -> bool) -> Lengths {
+        let (output, scratch) = (self.output - usize::from(meets(3)), self.scratch - usize::from(meets(4)));
+        Lengths { output, scratch, ..self }
     }
 
     /// Each buffer empty, too short by half and by one, as long as asked, and longer by one and by more.
@@ -100,10 +108,31 @@ impl<V: Clone + PartialEq + Debug> Buffers<V> {
     }
 }
 
+/// What a call reads. The certifying call reads no stimuli.
+#[derive(Clone, Copy)]
+pub struct Inputs<'a> {
+    pub table: &'a [u8],
+    pub stimuli: &'a [u8],
+}
+
+impl Display for Inputs<'_> {
+    fn fmt(&self, f: &mut Formatter) -> std::fmt::Result {
+        write_lines(f, "table", self.table, 16)?;
+        write_lines(f, "stimuli", self.stimuli, 8)
+    }
+}
+
+/// Writes bytes as a line a record, up to so many that small tables and lists are whole.
+fn write_lines(f: &mut Formatter, name: &str, bytes: &[u8], a_record: usize) -> std::fmt::Result {
+    write!(f, "\n{name}, {} bytes:", bytes.len())?;
+    bytes.chunks(a_record).take(40).try_for_each(|record| write!(f, "\n{record:3?}"))
+}
+
 /// What a call of the archive answers on these buffers, held against the model's call on equal buffers: the
-/// answers are equal, and so is all memory at exit. For ground 11 the row is free and held to be a loop.
+/// answers are equal, and so is all memory at exit. For ground 11 the row is free and held to be a loop. A
+/// refusal changes no output, whatever the model does.
 pub fn held_to_model<T, V>(
-    table: &[u8],
+    inputs: Inputs,
     entry: &Buffers<V>,
     archive: impl FnOnce(&mut [V], &mut [u16]) -> Result<T, Refusal>,
     model: impl FnOnce(&mut [V], &mut [u16]) -> Result<T, Refusal>,
@@ -117,27 +146,24 @@ where
     match (&answer, &expected) {
         (Err(Refusal { ground: 11, place }), Err(Refusal { ground: 11, .. })) => {
             let row = &exit.scratch.lent()[..*place];
-            assert_shows_loop(table, row);
-            expected_exit.show(table, row);
+            assert_shows_loop(inputs.table, row);
+            expected_exit.show(inputs.table, row);
         }
-        _ => assert_eq!(answer, expected, "the answer on {}", shown(table)),
+        _ => assert_eq!(answer, expected, "the answer on {inputs}"),
     }
-    assert_same("output", table, &exit.output, &expected_exit.output);
-    assert_same("scratch", table, &exit.scratch, &expected_exit.scratch);
+    assert_same("output", inputs, &exit.output, &expected_exit.output);
+    assert_same("scratch", inputs, &exit.scratch, &expected_exit.scratch);
+    if answer.is_err() {
+        assert_same("refused output", inputs, &exit.output, &entry.output);
+    }
     answer
 }
 
 /// Asserts that two buffers are equal, with the memory around them, and else names the first difference.
-fn assert_same<V: PartialEq + Debug>(name: &str, table: &[u8], found: &Buffer<V>, expected: &Buffer<V>) {
+fn assert_same<V: PartialEq + Debug>(name: &str, inputs: Inputs, found: &Buffer<V>, expected: &Buffer<V>) {
     let differ = |&i: &usize| found.memory[i] != expected.memory[i];
     if let Some(i) = (0..found.memory.len()).find(differ) {
         let (place, is, must) = (i as isize - found.margin as isize, &found.memory[i], &expected.memory[i]);
-        panic!("{name} {place} is {is:?} and must be {must:?}, on {}", shown(table));
+        panic!("{name} {place} is {is:?} and must be {must:?}, on {inputs}");
     }
-}
-
-/// A table as a message shows it: a line a record, up to so many that small tables are whole.
-fn shown(table: &[u8]) -> String {
-    let lines = table.chunks(16).take(40).map(|record| format!("\n{record:3?}"));
-    format!("a table of {} bytes:{}", table.len(), lines.collect::<String>())
 }

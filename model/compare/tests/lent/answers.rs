@@ -1,0 +1,33 @@
+//! How often each answer comes among random calls.
+
+use crate::common::Random;
+use model::Refusal;
+
+/// How often each answer came, by its ground and with 0 for accepted, and the greatest number that came with
+/// it: the rounds of an accepted call, the place of a refused one.
+#[derive(Debug, Default)]
+struct Answers {
+    times: [usize; 18],
+    greatest: [usize; 18],
+}
+
+/// Makes so many random calls. Asserts that each of these grounds was met, 0 being none.
+pub fn random_calls(
+    random: &mut Random,
+    calls: usize,
+    grounds: &[usize],
+    call: impl Fn(&mut Random) -> Result<u32, Refusal>,
+) {
+    let mut answers = Answers::default();
+    for _ in 0..calls {
+        let (ground, number) = match call(random) {
+            Ok(rounds) => (0, rounds as usize),
+            Err(Refusal { ground, place }) => (ground as usize, place),
+        };
+        answers.times[ground] += 1;
+        answers.greatest[ground] = answers.greatest[ground].max(number);
+    }
+    println!("of {calls}: {answers:?}");
+    let met = |&ground: &usize| answers.times[ground] > 0;
+    assert!(calls < 1000 || grounds.iter().all(met), "{answers:?}");
+}

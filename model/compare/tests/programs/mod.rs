@@ -1,0 +1,91 @@
+//! The programs, run as a user runs them: where each is, and all that a run of it prints.
+
+use crate::common::{assert_shows_loop, Refused};
+use std::io::{ErrorKind, Write};
+use std::path::PathBuf;
+use std::process::{Command, Stdio};
+use std::thread;
+
+/// Lengths of a table of zeros around the longest, and what both programs print for it.
+pub const TABLES_AROUND_THE_LONGEST: [(usize, &str); 5] = [
+    (65_535, "refused 2 at 0\n"),
+    (65_536, "refused 6 at 0\n"),
+    (65_537, "refused 1 at 0\n"),
+    (65_552, "refused 1 at 0\n"),
+    (1_000_000, "refused 1 at 0\n"),
+];
+
+/// All that a run of a program prints, on standard output and on standard error.
+pub struct Printed {
+    pub output: String,
+    pub errors: String,
+}
+
+impl Printed {
+    /// The output of a run that prints nothing else.
+    pub fn output_alone(self) -> String {
+        assert_eq!(self.errors, "", "standard error");
+        self.output
+    }
+}
+
+/// The named program: the one that the environment has under this name in capitals, or else the one that
+/// `rt check` builds.
+fn program(name: &str) -> PathBuf {
+    let built = || PathBuf::from(concat!(env!("CARGO_MANIFEST_DIR"), "/../../target/bin")).join(name);
+    std::env::var_os(name.to_uppercase()).map_or_else(built, PathBuf::from)
+}
+
+/// Runs the named program on these arguments and this input, which is written to it in pieces of this many
+/// bytes.
+pub fn run(name: &str, arguments: &[PathBuf], input: &[u8], piece: usize) -> Printed {
+    let program = program(name);
+    let mut command = Command::new(&program);
+    command.args(arguments).stdin(Stdio::piped()).stdout(Stdio::piped()).stderr(Stdio::piped());
+    let mut child = command
+        .spawn()
+        .unwrap_or_else(|error| panic!("{}: {error}; build it first: rt check {name}", program.display()));
+    let pipe = child.stdin.take().expect("standard input is piped");
+    let printed = thread::scope(|scope| {
+        scope.spawn(|| write_pieces(pipe, input, piece));
+        child.wait_with_output().expect("the program runs to its end")
+    });
+    assert!(printed.status.code().is_some(), "{name} ended by {}", printed.status);
+    let text = |bytes| String::from_utf8(bytes).expect("the program prints text");
+    Printed { output: text(printed.stdout), errors: text(printed.stderr) }
+}
+
+/// Writes an input in pieces, as far as it is read: what is too long need not be read to its end.
+fn write_pieces(mut pipe: impl Write, input: &[u8], piece: usize) {
+    for piece in input.chunks(piece) {
+        match pipe.write_all(piece) {
+            Err(error) if error.kind() == ErrorKind::BrokenPipe => return,
+            written => written.expect("standard input takes the bytes"),
+        }
+    }
+}
+
+/// Asserts that this output is what is printed for the model's answer on a table, with any loop of the table
+/// where there is one.
+pub fn assert_prints<T>(
+    table: &[u8],
+    output: &str,
+    answer: Result<T, Refused>,
+    printed: impl Fn(&Result<T, Refused>) -> String,
+) {
+    let answer = match answer {
+        Err(Refused { ground: 11, .. }) => Err(loop_shown(table, output)),
+        answer => answer,
+    };
+    assert_eq!(output, printed(&answer));
+}
+
+/// The refusal of a table with the row that the second line shows, which is held to be a loop.
+fn loop_shown(table: &[u8], output: &str) -> Refused {
+    let line = output.lines().nth(1).expect("a second line shows the loop");
+    let number =
+        |word: &str| word.parse().unwrap_or_else(|_| panic!("{word:?} in {output:?} is no variable"));
+    let row: Vec<u16> = line.split(' ').map(number).collect();
+    assert_shows_loop(table, &row);
+    Refused { ground: 11, place: row.len(), row }
+}

@@ -1,0 +1,96 @@
+//! Bench runs worked by hand: document 000's figure 1, case A, and two registers that feed each other.
+
+use super::document_cases::case_a;
+use super::{
+    constant, fixed, free, multiplexer, operator, poke_bytes, register, RecordBytes, StimulusBytes, TICK,
+};
+use model::Operator::{Add, Less, Subtract};
+
+/// A run: its table and stimuli, and the values in the end.
+pub struct Run {
+    pub name: &'static str,
+    pub table: Vec<u8>,
+    pub stimuli: Vec<u8>,
+    pub values: Vec<u32>,
+}
+
+/// Every run, at power-on and after each of its stimuli.
+pub fn hand_runs() -> Vec<Run> {
+    [accumulator(), case_a_counting(), exchange()].into_iter().flatten().collect()
+}
+
+/// The runs that these steps make, each a stimulus and the values after it: with none, the first, and so on.
+fn runs<const N: usize>(
+    name: &'static str,
+    table: [RecordBytes; N],
+    power_on: [u32; N],
+    steps: &[(StimulusBytes, [u32; N])],
+) -> Vec<Run> {
+    let run = |done: usize| {
+        let stimuli: Vec<StimulusBytes> = steps[..done].iter().map(|step| step.0).collect();
+        let values = steps[..done].last().map_or(power_on, |step| step.1);
+        Run {
+            name,
+            table: table.as_flattened().to_vec(),
+            stimuli: stimuli.as_flattened().to_vec(),
+            values: values.to_vec(),
+        }
+    };
+    (0..=steps.len()).map(run).collect()
+}
+
+/// Document 000, figure 1: the rows of its table in which no wire is left to follow.
+fn accumulator() -> Vec<Run> {
+    let table = [
+        free(8),                 // 0 in
+        free(8),                 // 1 en
+        free(8),                 // 2 rst
+        register(8, 0, 5),       // 3 out
+        register(8, 0, 3),       // 4 prev
+        multiplexer(8, 2, 6, 7), // 5 t1
+        constant(8, 0),          // 6 t2
+        multiplexer(8, 1, 8, 3), // 7 t3
+        operator(Add, 8, 3, 0),  // 8 t4
+    ];
+    let steps = [
+        (poke_bytes(1, 1), [0, 1, 0, 0, 0, 0, 0, 0, 0]),
+        (poke_bytes(0, 2), [2, 1, 0, 0, 0, 2, 0, 2, 2]),
+        (TICK, [2, 1, 0, 2, 0, 4, 0, 4, 4]),
+        (TICK, [2, 1, 0, 4, 2, 6, 0, 6, 6]),
+    ];
+    runs("figure 1 of document 000", table, [0; 9], &steps)
+}
+
+/// Case A: the register grows by 5 at a tick while the free input is 1, and the secret is held against 5.
+fn case_a_counting() -> Vec<Run> {
+    let steps = [
+        (TICK, [0, 0, 5, 0, 0, 5, 0]),
+        (poke_bytes(1, 1), [0, 1, 5, 0, 5, 5, 0]),
+        (TICK, [0, 1, 5, 5, 10, 10, 0]),
+        (poke_bytes(0, 5), [5, 1, 5, 5, 10, 10, 1]),
+        (TICK, [5, 1, 5, 10, 15, 15, 1]),
+        (poke_bytes(1, 0), [5, 0, 5, 10, 10, 15, 1]),
+        (TICK, [5, 0, 5, 10, 10, 15, 1]),
+        (poke_bytes(0, 255), [255, 0, 5, 10, 10, 15, 0]),
+    ];
+    runs("case A", case_a(free(1)), [0, 0, 5, 0, 0, 5, 0], &steps)
+}
+
+/// Two registers that feed each other, of widths 8 and 4, so that the second narrows what it takes; whether
+/// the first is less than the second; the first less a fixed input, at width 4.
+fn exchange() -> Vec<Run> {
+    let table = [
+        fixed(4, 9),
+        register(8, 19, 2),
+        register(4, 5, 1),
+        operator(Less, 1, 1, 2),
+        operator(Subtract, 4, 1, 0),
+    ];
+    let steps = [
+        (TICK, [9, 5, 3, 0, 12]),
+        (poke_bytes(0, 9), [9, 5, 3, 0, 12]),
+        (TICK, [9, 3, 5, 1, 10]),
+        (TICK, [9, 5, 3, 0, 12]),
+    ];
+    runs("exchange", table, [9, 19, 5, 0, 10], &steps)
+}

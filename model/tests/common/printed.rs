@@ -1,0 +1,36 @@
+//! The lines that the programs print for what their calls answer.
+
+use super::{Answer, Refused, Values};
+use model::Fact;
+
+/// The lines that the program certify prints for an answer.
+pub fn printed_certificate(answer: &Answer) -> String {
+    printed(answer, |(count, facts)| {
+        let line = |(variable, fact): (usize, &Fact)| match fact {
+            Fact::Always(n) => format!("{variable} always {n}\n"),
+            Fact::Open => format!("{variable} open\n"),
+            Fact::Marked => format!("{variable} marked\n"),
+        };
+        let lines: String = facts.iter().enumerate().map(line).collect();
+        format!("rounds {count}\n{lines}")
+    })
+}
+
+/// The lines that the program bench prints for an answer.
+pub fn printed_values(answer: &Values) -> String {
+    printed(answer, |values| {
+        values.iter().enumerate().map(|(variable, n)| format!("{variable} {n}\n")).collect()
+    })
+}
+
+/// The lines of an accepted call or, for a refusal, its line and for ground 11 a second one with the loop.
+fn printed<T>(answer: &Result<T, Refused>, accepted: impl Fn(&T) -> String) -> String {
+    match answer {
+        Ok(answer) => accepted(answer),
+        Err(Refused { ground, place, row }) => {
+            let row: Vec<String> = row.iter().map(|variable| variable.to_string()).collect();
+            let line = if *ground == 11 { row.join(" ") + "\n" } else { String::new() };
+            format!("refused {ground} at {place}\n{line}")
+        }
+    }
+}
