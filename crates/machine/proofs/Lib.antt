@@ -8,3 +8,4 @@ pub mod Running
 pub mod Promise
 pub mod Fixed
 pub mod Satisfied
+pub mod ReaderOwned

@@ -1,5 +1,6 @@
 pub mod Promise
 pub mod State
 pub mod Staging
+pub mod Reading
 pub mod Ready
 pub mod Answer

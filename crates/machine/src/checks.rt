@@ -12,7 +12,7 @@ ghost use Rattle.circuit.specs.Refusal.{refuse};
 ghost use Rattle.circuit.specs.Circuit.{circuit};
 ghost use Rattle.circuit.specs.Checks.{checkRecords};
 ghost use Rattle.circuit.specs.Stimuli.{fixedToOther, checkStimulus, checkStimuliFrom, checkStimuli};
-use crate::stimulus::read_stimulus;
+use crate::reader::read_stimulus;
 use circuit::number::wide;
 use circuit::record::InputKind;
 use circuit::record::Record;

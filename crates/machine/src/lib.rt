@@ -25,6 +25,7 @@ use schedule::schedule;
 mod checks;
 mod halves;
 mod pass;
+mod reader;
 mod run;
 mod stimulus;
 mod tick;

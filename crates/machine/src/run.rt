@@ -15,7 +15,7 @@ ghost use Rattle.schedule.specs.Scratch.{KeptOutside};
 ghost use Rattle.machine.specs.State.{state, Holds};
 ghost use Rattle.machine.specs.Ready.{Ready};
 use crate::pass::settle;
-use crate::stimulus::stimulus_at;
+use crate::reader::stimulus_at;
 use crate::tick::tick;
 use circuit::number::wide;
 use net::Stimulus;

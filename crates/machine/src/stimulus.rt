@@ -43,7 +43,7 @@ fn stimulus_of(kind: u8, v: u16, x: u32) -> Stimulus
 }
 
 // The stimulus of the 8 bytes from a place on, without a check.
-pub fn stimulus_at(s: &[u8], at: usize) -> Stimulus
+pub fn decode_unchecked(s: &[u8], at: usize) -> Stimulus
     requires { ⌜ at + 8 ≤ length (now s) ⌝ }
     ensures { λ r. ⌜ r ≡ stimulusAt (now (s .entry)) at ⌝ }
 {
@@ -51,7 +51,7 @@ pub fn stimulus_at(s: &[u8], at: usize) -> Stimulus
 }
 
 // The stimulus of the 8 bytes from a place on, or ground 14.
-pub fn read_stimulus(s: &[u8], at: usize) -> ReadStimulus
+pub fn decode(s: &[u8], at: usize) -> ReadStimulus
     requires { ⌜ at + 8 ≤ length (now s) ⌝ }
     ensures { λ r. ⌜ r ≡ readStimulus (now (s .entry)) at ⌝ }
 {

@@ -6,8 +6,8 @@ use lib.ListN.{getD}
 use Rattle.circuit.specs.declared.stimulus.ReadStimulus.the-variants.{Read}
 use Rattle.circuit.specs.Stimuli.{stimulusOf, badStimulus}
 use borrow.Author.Needs.{needs}
-use Rattle.machine.proofs.stimulus.read_stimulus.Statement.{statement}
-use Rattle.machine.proofs.stimulus.read_stimulus.Tie as tie
+use Rattle.machine.proofs.stimulus.decode.Statement.{statement}
+use Rattle.machine.proofs.stimulus.decode.Tie as tie
 
 shared-slice-read-kind : tie.Need-shared-slice-read-kind
 shared-slice-read-kind c = search needs
@@ -60,8 +60,8 @@ returns-2 c =
     ∙ ap₂ (stimulusOf (getD (x .s .now) (x .at) 0)) (c .before .before .before .before .before .u16-at .ensures)
     (c .before .before .before .before .u32-at .ensures)))
 
-pub read-stimulus-spec : {M : Type 1} → statement M
-read-stimulus-spec =
+pub decode-spec : {M : Type 1} → statement M
+decode-spec =
     tie.close
     (tie.spec
     shared-slice-read-kind

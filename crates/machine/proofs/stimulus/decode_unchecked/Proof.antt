@@ -4,8 +4,8 @@ use mathlib.Core.Path.{ap₂, _∙_}
 use lib.ListN.{getD}
 use Rattle.circuit.specs.Stimuli.{stimulusOf}
 use borrow.Author.Needs.{needs}
-use Rattle.machine.proofs.stimulus.stimulus_at.Statement.{statement}
-use Rattle.machine.proofs.stimulus.stimulus_at.Tie as tie
+use Rattle.machine.proofs.stimulus.decode_unchecked.Statement.{statement}
+use Rattle.machine.proofs.stimulus.decode_unchecked.Tie as tie
 
 shared-slice-read-stimulus-of : tie.Need-shared-slice-read-stimulus-of
 shared-slice-read-stimulus-of c = search needs
@@ -31,8 +31,8 @@ returns c =
     c .stimulus-of .ensures
     ∙ ap₂ (stimulusOf (getD (x .s .now) (x .at) 0)) (c .before .before .u16-at .ensures) (c .before .u32-at .ensures)
 
-pub stimulus-at-spec : {M : Type 1} → statement M
-stimulus-at-spec =
+pub decode-unchecked-spec : {M : Type 1} → statement M
+decode-unchecked-spec =
     tie.close
     (tie.spec
     shared-slice-read-stimulus-of
