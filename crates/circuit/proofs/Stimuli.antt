@@ -83,12 +83,16 @@ module _ (c : Circuit) where
 
   -- a stimulus that passes has been read
   read-passed : (bad : Bool) (x : Stimulus) (i : ℕ) → checkStimulus c (readFrom bad x) i ≡ Passed
-      → checkStimulus c (Read x) 0 ≡ Passed
+      → (bad ≡ false) × (checkStimulus c (Read x) 0 ≡ Passed)
   read-passed true x i e = absurd (let z : _≡_ {A = ℕ} 0 1 = cc in omega arith)
-  read-passed false x i e = passed-anywhere x i e
+  read-passed false x i e = (refl, passed-anywhere x i e)
+
+  -- none of grounds 14 to 17 holds of the stimulus at a place
+  abbrev pub PassedAt : List ℕ → ℕ → Type 0
+  PassedAt s at = (badStimulus s at ≡ false) × (checkStimulus c (Read (stimulusAt s at)) 0 ≡ Passed)
 
   passed-from : (s : List ℕ) (count i : ℕ) → checkStimuliFrom c s count i ≡ Passed
-      → (j : ℕ) → i ≤ j → j < i + count → checkStimulus c (Read (stimulusAt s (j * 8))) 0 ≡ Passed
+      → (j : ℕ) → i ≤ j → j < i + count → PassedAt s (j * 8)
   unfolding checkStimuliFrom
   passed-from s zero i e j low high = absurd (omega arith)
   passed-from s (suc count) i e j low high =
@@ -96,14 +100,13 @@ module _ (c : Circuit) where
       then-passed (checkStimulus c (readStimulus s (i * 8)) i) (checkStimuliFrom c s count (i + 1)) e in
       elim (ℕ-discrete i j) [
         | yes q ↦
-            subst (λ (k : ℕ). checkStimulus c (Read (stimulusAt s (k * 8))) 0 ≡ Passed) q
+            subst (λ (k : ℕ). PassedAt s (k * 8)) q
             (read-passed (badStimulus s (i * 8)) (stimulusAt s (i * 8)) i here)
         | no q ↦ passed-from s count (i + 1) later j (omega arith) (omega arith)
       ]
 
-  -- none of grounds 15 to 17 holds of any stimulus
-  pub stimulus-passed : (s : List ℕ) → checkStimuli c s ≡ Passed → (i : ℕ) → i < length s / 8
-      → checkStimulus c (Read (stimulusAt s (i * 8))) 0 ≡ Passed
+  -- none holds of any stimulus of a list that passes
+  pub stimulus-passed : (s : List ℕ) → checkStimuli c s ≡ Passed → (i : ℕ) → i < length s / 8 → PassedAt s (i * 8)
   unfolding checkStimuli
   stimulus-passed s e i h =
       let p12 = refuse-passed StimuliNotWhole 0 (not (eqb (length s % 8) 0)) _ e in
@@ -120,4 +123,5 @@ module _ (c : Circuit) where
   -- a list that passes is accepted
   pub stimuli-accepted : (s : List ℕ) → checkStimuli c s ≡ Passed → Accepted c (stimuli s)
   unfolding stimuli
-  stimuli-accepted s e = accepted-below (λ i. stimulusAt s (i * 8)) (length s / 8) (stimulus-passed s e)
+  stimuli-accepted s e = accepted-below (λ i. stimulusAt s (i * 8)) (length s / 8)
+      (λ i h. stimulus-passed s e i h .1)

@@ -69,4 +69,4 @@ module _ (t s s′ : List ℕ) (n : ℕ) where
   lists-alike e a =
       subst (λ (k : ℕ). AlikeLists c (stimuli s) (listBelow (λ i. stimulusAt s′ (i * 8)) (k / 8))) (a .equally-long)
       (alike-below (λ i. stimulusAt s (i * 8)) (λ i. stimulusAt s′ (i * 8)) (length s / 8)
-      (λ i below. alike-at (i * 8) (stimulus-passed c s e i below) (a .alike i below)))
+      (λ i below. alike-at (i * 8) (stimulus-passed c s e i below .1) (a .alike i below)))

@@ -9,3 +9,4 @@ pub mod Promise
 pub mod Fixed
 pub mod Satisfied
 pub mod ReaderOwned
+pub mod Reading

@@ -1,13 +1,13 @@
 // Stimuli read one record after another, by a reader that holds the list's bytes and the place of the next record. Each
-// function over it takes it apart and calls the reading of one record, which is covered; `read_stimulus` and
-// `stimulus_at` take plain parameters, so that who calls them needs no walk by hand.
+// function over it takes it apart and calls the reading of one record, which is covered; `read_stimulus` takes plain
+// parameters, so that who calls it needs no walk by hand.
 ghost use mathlib.Core.Path.{_≡_};
+ghost use mathlib.Core.Bool.{false};
 ghost use Prim.Native.Nat.{_+_, _≤_};
 ghost use lib.ListN.{length};
-ghost use Rattle.circuit.specs.Stimuli.{stimulusAt, readStimulus};
+ghost use Rattle.circuit.specs.Stimuli.{badStimulus, stimulusAt, readStimulus};
 ghost use Rattle.machine.specs.Reading.{moved};
 use crate::stimulus::decode;
-use crate::stimulus::decode_unchecked;
 use circuit::stimulus::ReadStimulus;
 use net::Stimulus;
 
@@ -34,17 +34,6 @@ fn next<'s, 'a>(r: &'s mut StimulusReader<'a>) -> ReadStimulus
     decode(r.stimuli, at)
 }
 
-// The next stimulus, without a check. The reader moves on by one record.
-fn next_unchecked<'s, 'a>(r: &'s mut StimulusReader<'a>) -> Stimulus
-    requires { ⌜ now r .at + 8 ≤ length (now (now r .stimuli)) ⌝ }
-    ensures { λ x. ⌜ (x ≡ stimulusAt (now (now (r .entry) .stimuli)) (now (r .entry) .at))
-        × (now (r .exit) ≡ moved (now (r .entry))) ⌝ }
-{
-    let at = r.at;
-    r.at = at + 8;
-    decode_unchecked(r.stimuli, at)
-}
-
 // The stimulus of the 8 bytes from a place on, or ground 14.
 pub fn read_stimulus(s: &[u8], at: usize) -> ReadStimulus
     requires { ⌜ at + 8 ≤ length (now s) ⌝ }
@@ -54,11 +43,14 @@ pub fn read_stimulus(s: &[u8], at: usize) -> ReadStimulus
     next(&mut reader)
 }
 
-// The stimulus of the 8 bytes from a place on, without a check.
+// The stimulus of the 8 bytes from a place on, where ground 14 does not hold.
 pub fn stimulus_at(s: &[u8], at: usize) -> Stimulus
-    requires { ⌜ at + 8 ≤ length (now s) ⌝ }
+    requires { ⌜ (at + 8 ≤ length (now s)) × (badStimulus (now s) at ≡ false) ⌝ }
     ensures { λ r. ⌜ r ≡ stimulusAt (now (s .entry)) at ⌝ }
 {
-    let mut reader = reader_at(s, at);
-    next_unchecked(&mut reader)
+    let read = read_stimulus(s, at);
+    match read {
+        ReadStimulus::Read(stimulus) => stimulus,
+        ReadStimulus::Refused(_) => Stimulus::Tick,
+    }
 }

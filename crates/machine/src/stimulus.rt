@@ -1,10 +1,10 @@
-// A stimulus from its 8 bytes: what it reads as, with ground 14 and without a check.
+// A stimulus from its 8 bytes: what it reads as, or ground 14.
 ghost use mathlib.Core.Path.{_≡_};
 ghost use mathlib.Core.Bool.{not, _&&_, _||_};
 ghost use Prim.Native.Nat.{_+_, _≤_};
 ghost use lib.Dec.{eqb, ltb};
 ghost use lib.ListN.{length};
-ghost use Rattle.circuit.specs.Stimuli.{stimulusOf, stimulusAt, readStimulus};
+ghost use Rattle.circuit.specs.Stimuli.{stimulusOf, readStimulus};
 use circuit::number::u16_at;
 use circuit::number::u32_at;
 use circuit::refusal::Ground;
@@ -40,14 +40,6 @@ fn stimulus_of(kind: u8, v: u16, x: u32) -> Stimulus
         return Stimulus::Poke(v, x);
     }
     Stimulus::Tick
-}
-
-// The stimulus of the 8 bytes from a place on, without a check.
-pub fn decode_unchecked(s: &[u8], at: usize) -> Stimulus
-    requires { ⌜ at + 8 ≤ length (now s) ⌝ }
-    ensures { λ r. ⌜ r ≡ stimulusAt (now (s .entry)) at ⌝ }
-{
-    stimulus_of(s[at], u16_at(s, at + 2), u32_at(s, at + 4))
 }
 
 // The stimulus of the 8 bytes from a place on, or ground 14.

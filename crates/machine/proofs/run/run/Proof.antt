@@ -30,7 +30,11 @@ mul-stimulus-at : tie.Need-mul-stimulus-at Inv-loop μ-loop
 mul-stimulus-at c = omega arith
 
 stimulus-at-requires : tie.Need-stimulus-at-requires Inv-loop μ-loop
-stimulus-at-requires c κs = omega arith
+stimulus-at-requires c κs =
+    let l = c .before .before .before in
+    let x = l .before .before .before .before .before .args in
+    let p = l .before .before .before .before .before .pre in
+    (omega arith, stimulus-passed (circuit (x .t .now) (x .n)) (x .s .now) (p .1 .1) (l .loop .i) (omega arith) .0)
 
 act-requires : tie.Need-act-requires Inv-loop μ-loop
 act-requires c κs =
@@ -42,7 +46,7 @@ act-requires c κs =
       (
         omega (arith, p .1 .0, l .loop .inv .1 .kept .long),
         subst (λ (y : Stimulus). checkStimulus C (Read y) 0 ≡ Passed) (sym (c .stimulus-at .ensures))
-            (stimulus-passed C (x .s .now) (p .1 .1) (l .loop .i) (omega arith)),
+            (stimulus-passed C (x .s .now) (p .1 .1) (l .loop .i) (omega arith) .1),
       ),
     )
 
