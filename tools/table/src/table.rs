@@ -48,41 +48,47 @@ pub fn read_table(text: &str) -> Result<Table, Problem> {
     if let Some(line) = lines.get(MOST_RECORDS) {
         return Err(line.problem(format!("a table has at most {MOST_RECORDS} records")));
     }
-    let mut places = HashMap::new();
-    let mut names = Vec::new();
-    for (i, line) in lines.iter().enumerate() {
-        let name = label(line, i)?;
-        if let Some(first) = name.and_then(|name| places.insert(name, i)) {
-            let what = format!("line {} has this name already", lines[first].number);
-            return Err(line.problem(what));
-        }
-        names.push(name.map(str::to_string));
-    }
+    let (names, definitions): (Vec<_>, Vec<_>) =
+        lines.iter().enumerate().map(split_line).collect::<Result<Vec<_>, _>>()?.into_iter().unzip();
+    let places = places(&lines, &names)?;
     let variable = |word: &str| find_variable(word, lines.len(), || places.get(word).copied());
-    let record = |line: &Line| read_record(definition(line), variable).map_err(|what| line.problem(what));
-    let records = lines.iter().map(record).collect::<Result<_, _>>()?;
+    let record = |(line, definition): (&Line, &&str)| {
+        read_record(definition, variable).map_err(|what| line.problem(what))
+    };
+    let records = lines.iter().zip(&definitions).map(record).collect::<Result<_, _>>()?;
+    let names = names.into_iter().map(|name| name.map(str::to_string)).collect();
     Ok(Table { records, names, lines: lines.iter().map(|line| line.number).collect() })
 }
 
-/// The name before a line's `=`. A number can stand there in its place, and must be the record's own.
-fn label<'a>(line: &Line<'a>, i: usize) -> Result<Option<&'a str>, Problem> {
-    let Some((label, _)) = line.text.split_once('=') else {
+/// The record that each name calls. No two have the same.
+fn places<'a>(lines: &[Line], names: &[Option<&'a str>]) -> Result<HashMap<&'a str, usize>, Problem> {
+    let mut places = HashMap::new();
+    for (i, name) in names.iter().enumerate() {
+        if let Some(first) = name.and_then(|name| places.insert(name, i)) {
+            return Err(lines[i].problem(format!("line {} has this name already", lines[first].number)));
+        }
+    }
+    Ok(places)
+}
+
+/// The name before the `=` of record i's line, and the definition behind it. A number can stand in the name's
+/// place, and must be the record's own.
+fn split_line<'a>((i, line): (usize, &Line<'a>)) -> Result<(Option<&'a str>, &'a str), Problem> {
+    let Some((label, definition)) = line.text.split_once('=') else {
         return Err(line.problem("a record is written: name = kind width .."));
     };
     let label = label.trim();
     if is_name(label) {
-        return Ok(Some(label));
+        return Ok((Some(label), definition));
     }
-    match label.parse() {
-        Ok(number) if is_decimal(label) && i == number => Ok(None),
-        _ if is_decimal(label) => Err(line.problem(format!("this is record {i}, not {label}"))),
-        _ => Err(line.problem(format!("`{label}` is no name: letters, digits and _, not a digit first"))),
+    if !is_decimal(label) {
+        let what = format!("`{label}` is no name: letters, digits and _, not a digit first");
+        return Err(line.problem(what));
     }
-}
-
-/// What stands behind a line's `=`.
-fn definition<'a>(line: &Line<'a>) -> &'a str {
-    line.text.split_once('=').map_or("", |(_, definition)| definition)
+    if label.parse() != Ok(i) {
+        return Err(line.problem(format!("this is record {i}, not {label}")));
+    }
+    Ok((None, definition))
 }
 
 /// The variable of this name, or of this number, in a table of so many records.

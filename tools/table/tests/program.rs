@@ -3,9 +3,9 @@
 mod examples;
 
 use examples::{example, folder};
+use std::fs;
 use std::path::{Path, PathBuf};
 use std::process::{Command, Output};
-use std::{env, fs, process};
 
 /// A run of the program with these arguments.
 fn table<A: AsRef<std::ffi::OsStr>>(arguments: &[A]) -> Output {
@@ -34,7 +34,7 @@ fn assert_says<A: AsRef<std::ffi::OsStr>>(arguments: &[A], status: i32, said: &s
 
 /// Runs a test on a file of these bytes that is there for its time alone.
 fn with_file(name: &str, bytes: &[u8], test: impl Fn(&Path)) {
-    let file = env::temp_dir().join(format!("table-{}-{name}", process::id()));
+    let file = Path::new(env!("CARGO_TARGET_TMPDIR")).join(name);
     fs::write(&file, bytes).unwrap();
     test(&file);
     fs::remove_file(&file).unwrap();

@@ -7,9 +7,12 @@ mod examples;
 use common::samples::samples;
 use common::shapes::random_pair;
 use common::tables::damage;
-use common::{bench_longer, cases, Random, MOST_RECORDS, MOST_STIMULI, TICK};
+use common::{
+    bench_longer, cases, constant, fixed, free, multiplexer, operator, register, secret, Random,
+    MOST_RECORDS, MOST_STIMULI, TICK,
+};
 use examples::examples;
-use model::{read_records, Refusal};
+use model::{read_records, Operator, Refusal};
 use table::{
     read_stimuli, read_table, stimuli_bytes, stimuli_text, table_bytes, table_text, Place, Problem, Table,
 };
@@ -55,6 +58,18 @@ fn named(random: &mut Random, bytes: &[u8]) -> String {
         format!("{} {} {} # {i}\r\n\n", calls[i], first[1..].join(" "), uses.join("\t"))
     };
     text.lines().enumerate().map(line).collect()
+}
+
+#[test]
+fn every_kind() {
+    let inputs = "0 = fixed 4 9\n1 = free 32\n2 = secret 0x10\n";
+    let wires = "n = constant 8 0xFf\nm = mux 8 0 1 2\nr = register 3 5 n\n";
+    let words = ["add", "sub", "and", "or", "xor", "equal", "less", "shl", "shr"];
+    let operators: String = words.map(|word| format!("{word} = {word} 7 1 2\n")).concat();
+    let records =
+        [fixed(4, 9), free(32), secret(16), constant(8, 255), multiplexer(8, 0, 1, 2), register(3, 5, 3)];
+    let records = [&records[..], &Operator::BY_CODE.map(|code| operator(code, 7, 1, 2))].concat();
+    assert_eq!(asm(&[inputs, wires, &operators].concat()), records.as_flattened());
 }
 
 #[test]
