@@ -1,0 +1,83 @@
+//! The Verilog of tables: a golden file with every kind and operator, and modules simulated beside the
+//! model's bench on all examples, every rule, and random tables.
+
+#[path = "../../../model/tests/common/mod.rs"]
+mod common;
+mod examples;
+mod simulator;
+
+use common::samples::every_rule;
+use common::shapes::random_shape;
+use common::tables::random_stimuli;
+use common::{cases, Random};
+use examples::examples;
+use model::{find_loop, power_on, run, InputKind, Record, Stimulus};
+use simulator::Module;
+use table::{read_stimuli, read_table, table_text, verilog, Table};
+
+/// Asserts that a table's module holds, at power-on and after a list, what the model's bench does.
+fn assert_simulates(table: &Table, list: &[Stimulus]) {
+    let mut module = Module::read(&verilog(table, "circuit").unwrap());
+    // The clock stands before the variables, and only where there are registers.
+    let clock = usize::from(table.records.iter().any(Record::is_register));
+    // Who uses the module ties a fixed input.
+    for (i, record) in table.records.iter().enumerate() {
+        if let Record::Input { kind: InputKind::Fixed(n), .. } = *record {
+            module.poke(clock + i, n);
+        }
+    }
+    assert_eq!(module.values()[clock..], power_on(&table.records));
+    for stimulus in list {
+        match *stimulus {
+            Stimulus::Poke { variable, n } => module.poke(clock + variable, n),
+            Stimulus::Tick => module.tick(),
+        }
+    }
+    assert_eq!(module.values()[clock..], run(&table.records, list));
+}
+
+#[test]
+fn golden_file() {
+    let table = read_table(include_str!("golden/every_kind.txt")).unwrap();
+    assert_eq!(verilog(&table, "table").unwrap(), include_str!("golden/every_kind.v"));
+    assert_simulates(
+        &table,
+        &read_stimuli(&table, "poke wide 0x80000013\ntick\npoke and 1\ntick").unwrap(),
+    );
+}
+
+#[test]
+fn a_table_without_records() {
+    assert_eq!(verilog(&read_table("").unwrap(), "circuit").unwrap(), "module circuit (\n);\nendmodule\n");
+}
+
+#[test]
+fn every_example() {
+    for example in examples() {
+        let table = read_table(&example.table_text).unwrap();
+        if find_loop(&table.records).is_none() {
+            assert_simulates(&table, &read_stimuli(&table, &example.stimuli_text).unwrap());
+        }
+    }
+}
+
+#[test]
+fn every_rule_at_its_boundaries() {
+    for w in [1, 5, 8, 31, 32] {
+        let table = read_table(&table_text(every_rule(w).as_flattened()).unwrap()).unwrap();
+        assert_simulates(&table, &[Stimulus::Tick]);
+    }
+}
+
+#[test]
+fn random_tables() {
+    let mut random = Random::of_test("simulated tables", 46);
+    for _ in 0..cases(100_000) / 100 {
+        let n = 1 + random.below(40);
+        let bytes = random_shape(&mut random, n, false);
+        let table = read_table(&table_text(bytes.as_flattened()).unwrap()).unwrap();
+        let list = random_stimuli(&mut random, &table.records, 20);
+        let list = list.iter().map(|bytes| Stimulus::read(bytes, &table.records).unwrap());
+        assert_simulates(&table, &list.collect::<Vec<_>>());
+    }
+}
