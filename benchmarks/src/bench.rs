@@ -98,6 +98,7 @@ fn check_stimuli(t: &impl Table, n: usize, s: &[u8]) -> Answer {
     Ok(())
 }
 
+#[inline(always)]
 fn record_value(t: &impl Table, values: &[u32], v: usize) -> u32 {
     let at = |u: u16| values[usize::from(u)];
     match t.record(v) {

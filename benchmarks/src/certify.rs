@@ -44,6 +44,7 @@ fn certify(t: &impl Table, cells: &mut impl Cells, scratch: &mut [u16]) -> Answe
     }
 }
 
+#[inline(always)]
 fn rule_fact(t: &impl Table, cells: &impl Cells, v: usize) -> Fact {
     rule(t.record(v), |u| cells.load(u))
 }

@@ -1,5 +1,6 @@
 //! Records and what they give from their operands, by value: facts for certify, numbers for bench. All variants share
-//! these, as they say nothing about where a record or a fact lives.
+//! these, as they say nothing about where a record or a fact lives. They are always inlined: left to itself the compiler
+//! keeps some apart, and hands a record over in memory.
 
 use model::Refusal;
 
@@ -53,6 +54,7 @@ pub enum Fact {
     Marked,
 }
 
+#[inline(always)]
 fn input_kind(code: u8, value: u32) -> InputKind {
     match code {
         0 => InputKind::Fixed(value),
@@ -61,6 +63,7 @@ fn input_kind(code: u8, value: u32) -> InputKind {
     }
 }
 
+#[inline(always)]
 fn operator_of(code: u8) -> Operator {
     match code {
         0 => Operator::Add,
@@ -76,6 +79,7 @@ fn operator_of(code: u8) -> Operator {
 }
 
 /// The record that fields read as, without a check.
+#[inline(always)]
 pub fn decode(f: Fields) -> Record {
     match f.kind {
         0 => Record::Input(f.width, input_kind(f.code, f.value)),
@@ -87,6 +91,7 @@ pub fn decode(f: Fields) -> Record {
 }
 
 /// The record that fields read as among n records, or the first of grounds 5 to 10 that holds.
+#[inline(always)]
 pub fn read_record(f: Fields, n: usize) -> Result<Record, u32> {
     // How many values byte 2 can have; which of A, B, C are used; whether the value is.
     let (codes, uses, has_value) = match f.kind {
@@ -120,6 +125,7 @@ pub fn read_record(f: Fields, n: usize) -> Result<Record, u32> {
     Ok(decode(f))
 }
 
+#[inline(always)]
 pub fn too_wide(value: u32, w: u8) -> bool {
     1u64 << w <= u64::from(value)
 }
@@ -137,10 +143,12 @@ pub fn check_lengths(bytes: usize, output: usize, each: usize, scratch: usize) -
     Err(Refusal { ground, place: 0 })
 }
 
+#[inline(always)]
 pub fn remainder(x: u32, w: u8) -> u32 {
     (u64::from(x) % (1u64 << w)) as u32
 }
 
+#[inline(always)]
 pub fn evaluate(op: Operator, w: u8, a: u32, b: u32) -> u32 {
     let x = match op {
         Operator::Add => a.wrapping_add(b),
@@ -156,11 +164,13 @@ pub fn evaluate(op: Operator, w: u8, a: u32, b: u32) -> u32 {
     remainder(x, w)
 }
 
+#[inline(always)]
 pub fn multiplex(w: u8, a: u32, b: u32, c: u32) -> u32 {
     remainder(if a == 0 { c } else { b }, w)
 }
 
 impl Fact {
+    #[inline(always)]
     fn narrow(self, w: u8) -> Fact {
         match self {
             Fact::Always(n) => Fact::Always(remainder(n, w)),
@@ -168,6 +178,7 @@ impl Fact {
         }
     }
 
+    #[inline(always)]
     fn join(self, other: Fact) -> Fact {
         match (self, other) {
             (Fact::Always(m), Fact::Always(n)) if m == n => self,
@@ -176,6 +187,7 @@ impl Fact {
         }
     }
 
+    #[inline(always)]
     fn always_or_marked(self) -> Fact {
         match self {
             Fact::Always(_) => self,
@@ -184,6 +196,7 @@ impl Fact {
     }
 
     /// Byte 0 of its 8 bytes.
+    #[inline(always)]
     pub fn byte(self) -> u8 {
         match self {
             Fact::Always(_) => 1,
@@ -193,6 +206,7 @@ impl Fact {
     }
 
     /// Bytes 4 to 7 of its 8 bytes.
+    #[inline(always)]
     pub fn number(self) -> u32 {
         match self {
             Fact::Always(n) => n,
@@ -201,6 +215,7 @@ impl Fact {
     }
 
     /// The fact of byte 0 and the number behind it.
+    #[inline(always)]
     pub fn of(byte: u8, n: u32) -> Fact {
         match byte {
             1 => Fact::Always(n),
@@ -210,6 +225,7 @@ impl Fact {
     }
 }
 
+#[inline(always)]
 pub fn input_rule(kind: InputKind) -> Fact {
     match kind {
         InputKind::Fixed(n) => Fact::Always(n),
@@ -218,6 +234,7 @@ pub fn input_rule(kind: InputKind) -> Fact {
     }
 }
 
+#[inline(always)]
 pub fn operator_rule(op: Operator, w: u8, a: Fact, b: Fact) -> Fact {
     match (a, b) {
         (Fact::Always(x), Fact::Always(y)) => Fact::Always(evaluate(op, w, x, y)),
@@ -226,6 +243,7 @@ pub fn operator_rule(op: Operator, w: u8, a: Fact, b: Fact) -> Fact {
     }
 }
 
+#[inline(always)]
 pub fn multiplexer_rule(w: u8, a: Fact, b: Fact, c: Fact) -> Fact {
     let (b, c) = (b.narrow(w), c.narrow(w));
     match a {
@@ -236,11 +254,13 @@ pub fn multiplexer_rule(w: u8, a: Fact, b: Fact, c: Fact) -> Fact {
     }
 }
 
+#[inline(always)]
 pub fn register_rule(w: u8, n: u32, a: Fact) -> Fact {
     a.narrow(w).join(Fact::Always(n))
 }
 
 /// The fact before any round; a wire's is not looked at.
+#[inline(always)]
 pub fn initial_fact(r: Record) -> Fact {
     match r {
         Record::Input(_, kind) => input_rule(kind),
@@ -250,6 +270,7 @@ pub fn initial_fact(r: Record) -> Fact {
 }
 
 /// What an input or a register holds at power-on, 0 for a wire.
+#[inline(always)]
 pub fn initial_value(r: Record) -> u32 {
     match r {
         Record::Input(_, InputKind::Fixed(n)) | Record::Register(_, _, n) => n,
@@ -258,6 +279,7 @@ pub fn initial_value(r: Record) -> u32 {
 }
 
 /// What a record's rule gives, with its operands' facts from `load`.
+#[inline(always)]
 pub fn rule(r: Record, load: impl Fn(usize) -> Fact) -> Fact {
     match r {
         Record::Input(_, kind) => input_rule(kind),

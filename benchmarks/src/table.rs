@@ -1,4 +1,5 @@
-//! Where a record comes from: the only thing, with where a fact lives, in which the first variants differ.
+//! Where a record comes from: the only thing, with where a fact lives, in which the first variants differ. What is here is
+//! always inlined, so that no variant pays for a call where the archive has none.
 
 use crate::rules::{decode, read_record, Fact, Fields, Record};
 use model::Refusal;
@@ -23,10 +24,12 @@ pub struct Bytes<'a>(pub &'a [u8]);
 /// A table read by whole records: one bounds check finds 16 bytes.
 pub struct Chunks<'a>(pub &'a [[u8; 16]]);
 
+#[inline(always)]
 fn u16_at(t: &[u8], at: usize) -> u16 {
     u16::from(t[at]) + 256 * u16::from(t[at + 1])
 }
 
+#[inline(always)]
 pub fn u32_at(t: &[u8], at: usize) -> u32 {
     u32::from(t[at])
         + 256 * u32::from(t[at + 1])
@@ -35,6 +38,7 @@ pub fn u32_at(t: &[u8], at: usize) -> u32 {
 }
 
 /// The fields of the 16 bytes from a place on.
+#[inline(always)]
 fn fields_at(t: &[u8], at: usize) -> Fields {
     Fields {
         kind: t[at],
@@ -49,10 +53,12 @@ fn fields_at(t: &[u8], at: usize) -> Fields {
     }
 }
 
+#[inline(always)]
 fn fields_of(bytes: &[u8; 16]) -> Fields {
     fields_at(bytes, 0)
 }
 
+#[inline(always)]
 fn wire_uses_of(kind: u8) -> u16 {
     match kind {
         1 => 1,
@@ -73,22 +79,27 @@ impl<'a> Bytes<'a> {
 }
 
 impl Table for Bytes<'_> {
+    #[inline(always)]
     fn len(&self) -> usize {
         self.0.len() / 16
     }
 
+    #[inline(always)]
     fn record(&self, v: usize) -> Record {
         decode(fields_at(self.0, v * 16))
     }
 
+    #[inline(always)]
     fn wire_uses(&self, v: usize) -> u16 {
         wire_uses_of(self.0[v * 16])
     }
 
+    #[inline(always)]
     fn use_at(&self, v: usize, k: usize) -> usize {
         u16_at(self.0, v * 16 + 4 + k * 2).into()
     }
 
+    #[inline(always)]
     fn is_register(&self, v: usize) -> bool {
         4 <= self.0[v * 16]
     }
@@ -105,66 +116,76 @@ impl<'a> Chunks<'a> {
 }
 
 impl Table for Chunks<'_> {
+    #[inline(always)]
     fn len(&self) -> usize {
         self.0.len()
     }
 
+    #[inline(always)]
     fn record(&self, v: usize) -> Record {
         decode(fields_of(&self.0[v]))
     }
 
+    #[inline(always)]
     fn wire_uses(&self, v: usize) -> u16 {
         wire_uses_of(self.0[v][0])
     }
 
+    #[inline(always)]
     fn use_at(&self, v: usize, k: usize) -> usize {
         u16_at(&self.0[v], 4 + k * 2).into()
     }
 
+    #[inline(always)]
     fn is_register(&self, v: usize) -> bool {
         4 <= self.0[v][0]
     }
 }
 
+/// A record decoded once: what evaluation asks for, and what the schedule asks for.
+#[derive(Clone, Copy)]
+pub struct Decoded {
+    pub record: Record,
+    pub uses: [u16; 3],
+    /// 0 where the record is no wire, else one more than the number of variables that it uses.
+    pub wire_uses: u16,
+}
+
 /// The records as structs, or the first of grounds 5 to 10 that one of them meets.
-pub fn decoded(t: &[u8], n: usize) -> Result<Vec<Record>, Refusal> {
-    let read =
-        |(place, bytes)| read_record(fields_of(bytes), n).map_err(|ground| Refusal { ground, place });
+pub fn decoded(t: &[u8], n: usize) -> Result<Vec<Decoded>, Refusal> {
     let mut records = Vec::with_capacity(n);
-    for numbered in t.as_chunks().0.iter().enumerate() {
-        records.push(read(numbered)?);
+    for (place, bytes) in t.as_chunks().0.iter().enumerate() {
+        let f = fields_of(bytes);
+        let record = read_record(f, n).map_err(|ground| Refusal { ground, place })?;
+        records.push(Decoded { record, uses: [f.a, f.b, f.c], wire_uses: wire_uses_of(f.kind) });
     }
     Ok(records)
 }
 
-impl Table for Vec<Record> {
+impl Table for Vec<Decoded> {
+    #[inline(always)]
     fn len(&self) -> usize {
         Vec::len(self)
     }
 
+    #[inline(always)]
     fn record(&self, v: usize) -> Record {
-        self[v]
+        self[v].record
     }
 
+    #[inline(always)]
     fn wire_uses(&self, v: usize) -> u16 {
-        match self[v] {
-            Record::Constant(_) => 1,
-            Record::Operator(..) => 3,
-            Record::Multiplexer(..) => 4,
-            Record::Input(..) | Record::Register(..) => 0,
-        }
+        self[v].wire_uses
     }
 
+    #[inline(always)]
     fn use_at(&self, v: usize, k: usize) -> usize {
-        match self[v] {
-            Record::Operator(_, _, a, b) => [a, b][k].into(),
-            Record::Multiplexer(_, a, b, c) => [a, b, c][k].into(),
-            _ => unreachable!("a record that uses no wire is never asked"),
-        }
+        self[v].uses[k].into()
     }
 
+    #[inline(always)]
     fn is_register(&self, v: usize) -> bool {
-        matches!(self[v], Record::Register(..))
+        matches!(self[v].record, Record::Register(..))
     }
 }
 
@@ -182,11 +203,13 @@ pub struct ByteCells<'a>(pub &'a mut [u8]);
 pub struct ChunkCells<'a>(pub &'a mut [[u8; 8]]);
 
 impl Cells for ByteCells<'_> {
+    #[inline(always)]
     fn load(&self, v: usize) -> Fact {
         let n = u32_at(self.0, v * 8 + 4);
         Fact::of(self.0[v * 8], n)
     }
 
+    #[inline(always)]
     fn store(&mut self, v: usize, f: Fact) {
         let at = v * 8;
         let n = f.number();
@@ -202,11 +225,13 @@ impl Cells for ByteCells<'_> {
 }
 
 impl Cells for ChunkCells<'_> {
+    #[inline(always)]
     fn load(&self, v: usize) -> Fact {
         let [byte, _, _, _, number @ ..] = self.0[v];
         Fact::of(byte, u32::from_le_bytes(number))
     }
 
+    #[inline(always)]
     fn store(&mut self, v: usize, f: Fact) {
         let [a, b, c, d] = f.number().to_le_bytes();
         self.0[v] = [f.byte(), 0, 0, 0, a, b, c, d];

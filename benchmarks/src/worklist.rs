@@ -4,7 +4,7 @@
 use crate::certify::Answer;
 use crate::rules::{check_lengths, initial_fact, rule, Fact, Record};
 use crate::schedule::{schedule, Outcome};
-use crate::table::decoded;
+use crate::table::{decoded, Decoded};
 use model::Refusal;
 
 pub fn certify(table: &[u8], certificate: &mut [u8], scratch: &mut [u16]) -> Answer {
@@ -14,7 +14,7 @@ pub fn certify(table: &[u8], certificate: &mut [u8], scratch: &mut [u16]) -> Ans
         Outcome::Loop(place) => return Err(Refusal { ground: 11, place }),
         Outcome::Order(wires, registers) => (wires, registers),
     };
-    let mut facts: Vec<Fact> = records.iter().map(|&r| initial_fact(r)).collect();
+    let mut facts: Vec<Fact> = records.iter().map(|r| initial_fact(r.record)).collect();
     for &v in &scratch[..wires] {
         facts[usize::from(v)] = rule_fact(&records, &facts, v);
     }
@@ -27,16 +27,16 @@ pub fn certify(table: &[u8], certificate: &mut [u8], scratch: &mut [u16]) -> Ans
     Ok(rounds)
 }
 
-fn rule_fact(records: &[Record], facts: &[Fact], v: u16) -> Fact {
-    rule(records[usize::from(v)], |u| facts[u])
+#[inline(always)]
+fn rule_fact(records: &[Decoded], facts: &[Fact], v: u16) -> Fact {
+    rule(records[usize::from(v)].record, |u| facts[u])
 }
 
-fn uses(r: Record) -> ([u16; 3], usize) {
-    match r {
-        Record::Input(..) | Record::Constant(_) => ([0; 3], 0),
-        Record::Operator(_, _, a, b) => ([a, b, 0], 2),
-        Record::Multiplexer(_, a, b, c) => ([a, b, c], 3),
-        Record::Register(_, a, _) => ([a, 0, 0], 1),
+/// The variables that a record uses.
+fn uses(r: &Decoded) -> &[u16] {
+    match r.record {
+        Record::Register(..) => &r.uses[..1],
+        _ => &r.uses[..usize::from(r.wire_uses.saturating_sub(1))],
     }
 }
 
@@ -47,11 +47,10 @@ struct Users {
 }
 
 impl Users {
-    fn of(records: &[Record], order: &[u16]) -> Users {
+    fn of(records: &[Decoded], order: &[u16]) -> Users {
         let mut starts = vec![0u16; records.len() + 1];
-        for &r in records {
-            let (used, count) = uses(r);
-            for &u in &used[..count] {
+        for r in records {
+            for &u in uses(r) {
                 starts[usize::from(u) + 1] += 1;
             }
         }
@@ -61,8 +60,7 @@ impl Users {
         let mut next = starts.clone();
         let mut places = vec![0u16; usize::from(starts[records.len()])];
         for (place, &v) in order.iter().enumerate() {
-            let (used, count) = uses(records[usize::from(v)]);
-            for &u in &used[..count] {
+            for &u in uses(&records[usize::from(v)]) {
                 let at = &mut next[usize::from(u)];
                 places[usize::from(*at)] = place as u16;
                 *at += 1;
@@ -100,7 +98,7 @@ impl Places {
 }
 
 /// The rounds, with the wires' places before the registers' in the order.
-fn run_rounds(records: &[Record], order: &[u16], wires: usize, facts: &mut [Fact]) -> u32 {
+fn run_rounds(records: &[Decoded], order: &[u16], wires: usize, facts: &mut [Fact]) -> u32 {
     let mut staged = Vec::new();
     for &v in &order[wires..] {
         stage(records, facts, v, &mut staged);
@@ -137,7 +135,7 @@ fn run_rounds(records: &[Record], order: &[u16], wires: usize, facts: &mut [Fact
 }
 
 /// Notes a register's next fact where it changes.
-fn stage(records: &[Record], facts: &[Fact], v: u16, staged: &mut Vec<(u16, Fact)>) {
+fn stage(records: &[Decoded], facts: &[Fact], v: u16, staged: &mut Vec<(u16, Fact)>) {
     let f = rule_fact(records, facts, v);
     if f != facts[usize::from(v)] {
         staged.push((v, f));
