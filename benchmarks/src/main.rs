@@ -1,7 +1,7 @@
-//! The archive's calls held against Rust, as ratios of medians: by bytes (the same algorithm in plain safe Rust on the
-//! same lent buffers), by chunks (the same, with one bounds check a record and a fact), by structs (records decoded
-//! first), and for certify a worklist with a heap. Every variant's answer and buffers are compared with the archive's
-//! before it is timed. Nothing asserts a time.
+//! The archive's calls held against Rust, as ratios of medians: by bytes (the same algorithm in plain safe
+//! Rust on the same lent buffers), by chunks (the same, with one bounds check a record and a fact), by
+//! structs (records decoded first), and for certify a worklist with a heap. Every variant's answer and
+//! buffers are compared with the archive's before it is timed. Nothing asserts a time.
 
 mod bench;
 mod certify;
@@ -25,12 +25,12 @@ use std::hint::black_box;
 type Certify = fn(&[u8], &mut [u8], &mut [u16]) -> certify::Answer;
 type Bench = fn(&[u8], &[u8], &mut [u32], &mut [u16]) -> bench::Answer;
 
-/// The archive's call, and then the variants; the scratch is compared of the first of these alone.
+/// The archive's call, and then the variants.
 const CERTIFY: [Certify; 5] =
     [compare::certify, certify::by_bytes, certify::by_chunks, certify::by_structs, worklist::certify];
 const BENCH: [Bench; 4] = [compare::bench, bench::by_bytes, bench::by_chunks, bench::by_structs];
 
-/// How many variants after the archive's use the scratch as it does.
+/// How many of the variants work without a heap, so that their scratch is compared as well.
 const SAME_SCRATCH: usize = 2;
 
 /// How many random tables and lists, most of them damaged or with a loop, the variants are compared on besides.

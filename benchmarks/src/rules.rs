@@ -1,6 +1,6 @@
-//! Records and what they give from their operands, by value: facts for certify, numbers for bench. All variants share
-//! these, as they say nothing about where a record or a fact lives. They are always inlined: left to itself the compiler
-//! keeps some apart, and hands a record over in memory.
+//! Records and what they give from their operands, by value: facts for certify, numbers for bench. All
+//! variants share these, as they say nothing about where a record or a fact lives. They are always inlined:
+//! left to itself the compiler keeps some apart, and hands a record over in memory.
 
 use model::Refusal;
 

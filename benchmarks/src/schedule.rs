@@ -1,5 +1,6 @@
-//! The wires in an order in which each stands after those that it uses, or a loop, depth-first in the lent scratch: the
-//! finished wires from the front, the stack from place n down, and a state for each variable from place n on.
+//! The wires in an order in which each stands after those that it uses, or a loop, depth-first in the lent
+//! scratch: the finished wires from the front, the stack from place n down, and a state for each variable
+//! from place n on.
 
 use crate::table::Table;
 

@@ -1,5 +1,5 @@
-//! Where a record comes from: the only thing, with where a fact lives, in which the first variants differ. What is here is
-//! always inlined, so that no variant pays for a call where the archive has none.
+//! Where a record comes from: the only thing, with where a fact lives, in which the first variants differ.
+//! What is here is always inlined, so that no variant pays for a call where the archive has none.
 
 use crate::rules::{decode, read_record, Fact, Fields, Record};
 use model::Refusal;
