@@ -33,7 +33,7 @@ const BENCH: [Bench; 4] = [compare::bench, bench::by_bytes, bench::by_chunks, be
 /// How many of the variants work without a heap, so that their scratch is compared as well.
 const SAME_SCRATCH: usize = 2;
 
-/// How many random tables and lists, most of them damaged or with a loop, the variants are compared on besides.
+/// How many random tables and lists, about half of them refused, the variants are compared on besides.
 const RANDOM_TABLES: usize = 3000;
 
 const SEED: u64 = 8;
