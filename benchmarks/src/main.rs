@@ -141,33 +141,26 @@ fn bench_row(shape: &Shape) {
 }
 
 fn print_head() {
-    println!("times are medians; a ratio is the archive's time by the variant's, so less is better for the archive");
-    println!();
+    println!("count: rounds of certify, stimuli of bench; ns each: the call's time by its evaluations");
     println!(
-        "| {:<7} | {:<29} | {:>7} | {:>15} | {:>10} | {:>13} | {:>5} | {:>6} | {:>7} | {:>8} |",
-        "call",
-        "shape",
-        "records",
-        "rounds, stimuli",
-        "us a call",
-        "ns evaluation",
-        "bytes",
-        "chunks",
-        "structs",
-        "worklist"
+        "times are medians; a ratio is the archive's time by the variant's: below 1 the archive is faster"
+    );
+    println!();
+    let [call, shape, n, count, us, ns] = ["call", "shape", "records", "count", "us a call", "ns each"];
+    let [bytes, chunks, structs, worklist] = ["bytes", "chunks", "structs", "worklist"];
+    println!(
+        "| {call:<7} | {shape:<25} | {n:>7} | {count:>5} | {us:>9} | {ns:>7} \
+         | {bytes:>5} | {chunks:>6} | {structs:>7} | {worklist:>8} |"
     );
     println!("|---|---|---:|---:|---:|---:|---:|---:|---:|---:|");
 }
 
 fn print_row(call: &str, name: &str, n: usize, count: usize, evaluations: usize, times: &[f64]) {
-    let ratio = |i: usize| times.get(i).map_or("".to_string(), |time| format!("{:.2}", times[0] / time));
+    let ratio = |i: usize| times.get(i).map_or(String::new(), |time| format!("{:.2}", times[0] / time));
+    let (us, ns) = (times[0] / 1000.0, times[0] / evaluations as f64);
+    let [bytes, chunks, structs, worklist] = [1, 2, 3, 4].map(ratio);
     println!(
-        "| {call:<7} | {name:<29} | {n:>7} | {count:>15} | {:>10.2} | {:>13.1} | {:>5} | {:>6} | {:>7} | {:>8} |",
-        times[0] / 1000.0,
-        times[0] / evaluations as f64,
-        ratio(1),
-        ratio(2),
-        ratio(3),
-        ratio(4),
+        "| {call:<7} | {name:<25} | {n:>7} | {count:>5} | {us:>9.2} | {ns:>7.1} \
+         | {bytes:>5} | {chunks:>6} | {structs:>7} | {worklist:>8} |"
     );
 }

@@ -30,7 +30,7 @@ pub fn for_certify(random: &mut Random) -> Vec<Shape> {
         shape("operators, in order", &in_order),
         shape("operators, in reverse", &turned(&in_order)),
         shape("chain of registers", &registers(4096)),
-        shape("ring of registers, 2 R rounds", &register_ring(random, 1024)),
+        shape("ring of registers (2 R)", &register_ring(random, 1024)),
         shape("multiplexer tree", &multiplexers(random, 2048)),
     ];
     for n in [256, 512, 1024, 2048, 4096] {
