@@ -1,0 +1,51 @@
+//! Interleaved timing: calls take turns, so that what else the machine does falls on all of them alike.
+
+use std::time::{Duration, Instant};
+
+/// How long one sample should take at least: calls that are shorter are made several times in a sample.
+const SAMPLE: Duration = Duration::from_micros(400);
+
+/// How long all samples of a row should take, as far as the least number of samples allows.
+const ROW: Duration = Duration::from_millis(1000);
+
+const LEAST_SAMPLES: usize = 5;
+const MOST_SAMPLES: usize = 301;
+
+/// One call, made ready.
+pub type Call<'a> = Box<dyn FnMut() + 'a>;
+
+/// The median time of each call in nanoseconds.
+pub fn medians(calls: &mut [Call]) -> Vec<f64> {
+    let once: Vec<Duration> = calls.iter_mut().map(|call| time(call, 1)).collect();
+    let times: Vec<u32> = once.iter().map(|&once| repetitions(once)).collect();
+    let turn: Duration = once.iter().zip(&times).map(|(&once, &times)| once * times).sum();
+    let samples = (ROW.as_nanos() / turn.as_nanos().max(1)) as usize;
+    let samples = samples.clamp(LEAST_SAMPLES, MOST_SAMPLES);
+    let mut taken = vec![Vec::with_capacity(samples); calls.len()];
+    for turn in 0..samples {
+        // Each turn begins with another call, so that none always follows the same one.
+        for place in 0..calls.len() {
+            let i = (turn + place) % calls.len();
+            let spent = time(&mut calls[i], times[i]);
+            taken[i].push(spent.as_nanos() as f64 / f64::from(times[i]));
+        }
+    }
+    taken.into_iter().map(median).collect()
+}
+
+fn time(call: &mut Call, times: u32) -> Duration {
+    let start = Instant::now();
+    for _ in 0..times {
+        call();
+    }
+    start.elapsed()
+}
+
+fn repetitions(once: Duration) -> u32 {
+    (SAMPLE.as_nanos() / once.as_nanos().max(1)).max(1) as u32
+}
+
+fn median(mut taken: Vec<f64>) -> f64 {
+    taken.sort_by(f64::total_cmp);
+    taken[taken.len() / 2]
+}

@@ -1,0 +1,120 @@
+//! The tables and lists that are timed.
+
+use crate::common::document_cases::case_a;
+use crate::common::shapes::{register_ring, turned};
+use crate::common::tables::{random_number, random_stimuli, renumbered};
+use crate::common::{
+    constant, fixed, free, multiplexer, operator, register, secret, Random, RecordBytes, Table, TICK,
+};
+use model::{read_records, Operator};
+
+/// A table, and for the bench the list that runs on it.
+pub struct Shape {
+    pub name: &'static str,
+    pub table: Vec<u8>,
+    pub stimuli: Vec<u8>,
+}
+
+fn shape(name: &'static str, table: &[RecordBytes]) -> Shape {
+    listed(name, table, &[])
+}
+
+fn listed(name: &'static str, table: &[RecordBytes], list: &[[u8; 8]]) -> Shape {
+    Shape { name, table: table.as_flattened().to_vec(), stimuli: list.as_flattened().to_vec() }
+}
+
+pub fn for_certify(random: &mut Random) -> Vec<Shape> {
+    let in_order = operators(random, 4096);
+    let mut shapes = vec![
+        shape("case A", &case_a(free(1))),
+        shape("operators, in order", &in_order),
+        shape("operators, in reverse", &turned(&in_order)),
+        shape("chain of registers", &registers(4096)),
+        shape("ring of registers (2 R)", &register_ring(random, 1024)),
+        shape("multiplexer tree", &multiplexers(random, 2048)),
+    ];
+    for n in [256, 512, 1024, 2048, 4096] {
+        shapes.push(shape("random mix", &mix(random, n)));
+    }
+    for n in [256, 512, 1024, 2048] {
+        shapes.push(shape("operators, in order", &operators(random, n)));
+    }
+    shapes
+}
+
+pub fn for_bench(random: &mut Random) -> Vec<Shape> {
+    let few = mix(random, 400);
+    let many = mix(random, 4096);
+    let tree = multiplexers(random, 2048);
+    vec![
+        shape("case A, no stimulus", &case_a(free(1))),
+        shape("random mix, no stimulus", &many),
+        listed("random mix, ticks", &few, &[TICK; 4096]),
+        listed("random mix, pokes", &few, &pokes(random, &few, 4096)),
+        listed("random mix, ticks", &many, &[TICK; 256]),
+        listed("random mix, pokes", &many, &pokes(random, &many, 256)),
+        listed("operators, ticks", &operators(random, 4096), &[TICK; 256]),
+        listed("chain of registers, ticks", &registers(4096), &[TICK; 256]),
+        listed("multiplexer tree, pokes", &tree, &pokes(random, &tree, 256)),
+    ]
+}
+
+/// One constant and operators of width 32, each on the one before it and on any before it.
+fn operators(random: &mut Random, n: usize) -> Table {
+    let mut one = |i: usize| match i {
+        0 => constant(32, 0x9e37_79b9),
+        _ => operator(random.pick(&Operator::BY_CODE), 32, i as u16 - 1, random.below(i) as u16),
+    };
+    (0..n).map(&mut one).collect()
+}
+
+/// A constant and a chain of registers behind it, which takes a round for each of them.
+fn registers(n: usize) -> Table {
+    let chain = (1..n).map(|i| register(1, 0, i as u16 - 1));
+    std::iter::once(constant(1, 1)).chain(chain).collect()
+}
+
+/// A tree of multiplexers over so many leaves, which also are their controls.
+fn multiplexers(random: &mut Random, leaves: usize) -> Table {
+    let mut table: Table = (0..leaves).map(|_| leaf(random, 8)).collect();
+    for i in 0..leaves - 1 {
+        let arm = 2 * i as u16;
+        table.push(multiplexer(8, random.below(leaves) as u16, arm, arm + 1));
+    }
+    table
+}
+
+fn leaf(random: &mut Random, w: u8) -> RecordBytes {
+    let n = random_number(random, u32::from(w));
+    random.pick(&[fixed(w, n), constant(w, n), fixed(w, n), constant(w, n), free(w), secret(w)])
+}
+
+/// All kinds, half of the uses near and half far, in a random order. A register uses any variable.
+fn mix(random: &mut Random, n: usize) -> Table {
+    let table: Table = (0..n).map(|i| mixed(random, i, n)).collect();
+    let order = random.order(n);
+    renumbered(&table, &order)
+}
+
+fn mixed(random: &mut Random, i: usize, n: usize) -> RecordBytes {
+    let w = random.pick(&[1, 8, 16, 32]);
+    let reach = if random.percent(50) { i.min(16) } else { i }.max(1);
+    let [a, b, c] = [0; 3].map(|_| (i.max(1) - 1 - random.below(reach)) as u16);
+    match random.below(16) {
+        _ if i < 8 => leaf(random, w),
+        0..2 => leaf(random, w),
+        2..9 => operator(random.pick(&Operator::BY_CODE), w, a, b),
+        9..13 => multiplexer(w, a, b, c),
+        _ => register(w, random_number(random, u32::from(w)), random.below(n) as u16),
+    }
+}
+
+/// Pokes of a table's inputs that the bench accepts.
+fn pokes(random: &mut Random, table: &[RecordBytes], length: usize) -> Vec<[u8; 8]> {
+    let records = read_records(table.as_flattened()).unwrap();
+    let mut list = random_stimuli(random, &records, length * 3);
+    list.retain(|stimulus| *stimulus != TICK);
+    list.truncate(length);
+    assert_eq!(list.len(), length);
+    list
+}
