@@ -22,6 +22,9 @@ use Rattle.machine.specs.declared.Benched.the-variants as benched
 use Rattle.machine.specs.Promise.{Benches}
 use Rattle.text.specs.Text.{refusalLine, loopLine, refusalText}
 use Rattle.text.specs.Prints.{ShowsRow, CertifiedStands, BenchedStands}
+use Rattle.text.specs.declared.Report.{Report}
+use Rattle.text.specs.declared.Report.the-variants.{Bytes, Line}
+use Rattle.text.specs.Reports.{Tells, Within}
 
 module _ (g : Ground) (place : ℕ) (s : List ℕ) where
   pub loop-text : groundNumber g ≡ 11 → refusalText g place s ≡ refusalLine g place ++ loopLine s place
@@ -66,3 +69,13 @@ module _ (b : Buffers) (long : length (b .output-exit) ≡ length (b .output))
   benched-stands s (benched.Refused g place) (inr (inl (is, p))) = loop-stands 1 b long scratch-long g place p
   benched-stands s (benched.Refused g place) (inr (inr p)) = λ e.
       absurd (omega (arith, rw (p .first) at (stimuli-ground (circuitOf b) s)))
+
+-- what is told of stands in longer buffers too, a certificate in its own
+pub told-within : (a : Certified) (r : Report) (n certificate scratch line room : ℕ) (out : List ℕ) → line ≤ room
+    → CertifiedStands a n certificate scratch → Tells a (n * 8) out r → Within r (n * 8) line → Within r certificate room
+told-within (certified.Accepted k) (Bytes count) n certificate scratch line room out h stands tells within =
+    omega (arith, stands .1, tells)
+told-within (certified.Accepted k) (Line r) n certificate scratch line room out h stands tells within = absurd tells
+told-within (certified.Refused g place) (Bytes count) n certificate scratch line room out h stands tells within =
+    absurd tells
+told-within (certified.Refused g place) (Line r) n certificate scratch line room out h stands tells within = omega arith

@@ -6,6 +6,7 @@ ghost use Rattle.schedule.specs.Call.{buffers};
 ghost use Rattle.text.specs.Text.{refusalText, certifiedText, benchedText};
 ghost use Rattle.text.specs.Pieces.{Put};
 ghost use Rattle.text.specs.Prints.{ShowsRow, CertifiedStands, BenchedStands, CertifiesInText, BenchesInText};
+ghost use Rattle.text.specs.Reports.{Tells, Within, CertifiesInBytes};
 use crate::lines::put_facts;
 use crate::lines::put_loop;
 use crate::lines::put_refusal;
@@ -20,6 +21,12 @@ use machine::bench;
 
 mod lines;
 mod put;
+
+// What is told to a program that reads the certificate's own bytes: how many they are, or where a refusal's line begins.
+pub enum Report {
+    Bytes(usize),
+    Line(usize),
+}
 
 // A refusal's line and, for ground 11, the line of the loop that the scratch shows.
 fn put_refused(out: &mut [u8], ground: Ground, place: usize, scratch: &[u16]) -> usize
@@ -56,6 +63,20 @@ fn put_certified(
     }
 }
 
+// What is told of the certifying call's answer where the certificate has so many bytes.
+fn put_report(line: &mut [u8], answer: Certified, bytes: usize) -> Report
+    requires { ⌜ 53 ≤ length (now line) ⌝ }
+    ensures { λ r. ⌜ Tells answer bytes (now (line .exit)) r ⌝ }
+    ensures { λ r. ⌜ Within r bytes (length (now (line .entry))) ⌝ }
+{
+    match answer {
+        Certified::Accepted(_) => Report::Bytes(bytes),
+        Certified::Refused(ground, place) => {
+            Report::Line(put_refusal(line, line.len(), ground, place))
+        }
+    }
+}
+
 // The bench call's answer, on a table of n records.
 fn put_benched(out: &mut [u8], answer: Benched, n: usize, values: &[u32], scratch: &[u16]) -> usize
     requires { ⌜ 131072 ≤ length (now out) ⌝ }
@@ -84,6 +105,24 @@ pub fn certify_text(
 {
     let answer = certify(table, certificate, scratch);
     put_certified(out, answer, table.len() / 16, certificate, scratch)
+}
+
+// Certifies a table for a program that reads the certificate's own bytes. A refusal's line stands in `line` from the
+// place answered up to the end.
+pub fn certify_bytes(
+    table: &[u8],
+    certificate: &mut [u8],
+    scratch: &mut [u16],
+    line: &mut [u8; 64],
+) -> Report
+    ensures { λ r. ⌜ CertifiesInBytes
+        (buffers (now (table .entry)) (now (certificate .entry)) (now (scratch .entry))
+        (now (certificate .exit)) (now (scratch .exit)))
+        (now (line .exit)) r ⌝ }
+    ensures { λ r. ⌜ Within r (length (now (certificate .exit))) 64 × (64 ≤ length (now (line .exit))) ⌝ }
+{
+    let answer = certify(table, certificate, scratch);
+    put_report(line, answer, table.len() / 16 * 8)
 }
 
 // Runs a list of stimuli on a table and makes the text of the answer. It stands in `out` from the place answered up to

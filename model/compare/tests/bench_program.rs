@@ -13,7 +13,7 @@ use common::shapes::{chain, random_pair, register_ring};
 use common::tables::{damage, random_stimuli};
 use common::{bench_longer, cases, constant, poke_bytes, Random, MOST_RECORDS, MOST_STIMULI, TICK};
 use model::read_records;
-use programs::{assert_prints, run, Printed, TABLES_AROUND_THE_LONGEST};
+use programs::{assert_complains, assert_prints, run, TABLES_AROUND_THE_LONGEST};
 use std::fs;
 use std::path::{Path, PathBuf};
 
@@ -36,7 +36,8 @@ impl Folder {
 
     /// All that the program prints for a table and a list of stimuli.
     fn output(&self, table: &[u8], stimuli: &[u8]) -> String {
-        run_on(&[self.file("table", table), self.file("stimuli", stimuli)]).output_alone()
+        let files = [self.file("table", table), self.file("stimuli", stimuli)];
+        run("bench", &files, &[], 1).output_alone()
     }
 
     /// Asserts that the program prints the model's answer, with any loop of the table where there is one.
@@ -44,10 +45,6 @@ impl Folder {
         let (output, answer) = (self.output(table, stimuli), bench_longer(table, stimuli, 0));
         assert_prints(table, &output, answer, printed_values);
     }
-}
-
-fn run_on(arguments: &[PathBuf]) -> Printed {
-    run("bench", arguments, &[], 1)
 }
 
 #[test]
@@ -186,15 +183,6 @@ fn largest_tables() {
     folder.assert_prints_answer(&longest_lines, &[]);
 }
 
-/// Asserts that the program prints one line on standard error and nothing else.
-fn assert_complains(arguments: &[PathBuf]) {
-    let Printed { output, errors } = run_on(arguments);
-    assert_eq!(output, "", "standard output on {arguments:?}");
-    let line =
-        errors.strip_suffix('\n').unwrap_or_else(|| panic!("no line in {errors:?} on {arguments:?}"));
-    assert!(!line.trim().is_empty() && !line.contains('\n'), "{errors:?} is not one line on {arguments:?}");
-}
-
 #[test]
 fn files_that_cannot_be_read() {
     let folder = Folder::of_test("files that cannot be read");
@@ -204,10 +192,10 @@ fn files_that_cannot_be_read() {
     let unreadable =
         [folder.0.join("missing"), folder.0.clone(), table.join("below a file"), PathBuf::new()];
     for path in unreadable {
-        assert_complains(&[path.clone(), list.clone()]);
-        assert_complains(&[path.clone(), path.clone()]);
+        assert_complains("bench", &[path.clone(), list.clone()]);
+        assert_complains("bench", &[path.clone(), path.clone()]);
         for table in refused_tables.iter().chain([&table]) {
-            assert_complains(&[table.clone(), path.clone()]);
+            assert_complains("bench", &[table.clone(), path.clone()]);
         }
     }
 }
@@ -219,6 +207,6 @@ fn wrong_arguments() {
     let list = folder.file("stimuli", &TICK);
     let files = [table, list.clone(), list, folder.0.join("missing")];
     for number in [0, 1, 3, 4] {
-        assert_complains(&files[..number]);
+        assert_complains("bench", &files[..number]);
     }
 }

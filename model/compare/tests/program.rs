@@ -11,7 +11,8 @@ use common::samples::samples;
 use common::shapes::{chain, random_shape, register_ring};
 use common::tables::damage;
 use common::{cases, certify_longer, Random, MOST_RECORDS};
-use programs::{assert_prints, run, TABLES_AROUND_THE_LONGEST};
+use model::certify;
+use programs::{assert_complains, assert_prints, run, Printed, TABLES_AROUND_THE_LONGEST};
 
 /// All that the program prints for a table that is written to it in pieces of this many bytes.
 fn output_by_pieces(table: &[u8], piece: usize) -> String {
@@ -23,15 +24,34 @@ fn output(table: &[u8]) -> String {
     output_by_pieces(table, table.len().max(1))
 }
 
-/// Asserts that the program prints the model's answer, with any loop of the table where there is one.
+/// Asserts that the program prints the model's answer, with any loop of the table where there is one, and with
+/// --bytes the model's certificate.
 fn assert_prints_answer(table: &[u8]) {
-    assert_prints(table, &output(table), certify_longer(table, 0), printed_certificate);
+    let printed = output(table);
+    assert_prints(table, &printed, certify_longer(table, 0), printed_certificate);
+    assert_writes_certificate(table, &printed);
+}
+
+/// Asserts that with --bytes the program writes the model's certificate and nothing else; for a refusal, nothing but
+/// its line on standard error, which is the first of what is printed without --bytes.
+fn assert_writes_certificate(table: &[u8], printed: &str) {
+    let Printed { output, errors } = run("certify", &["--bytes".into()], table, table.len().max(1));
+    let n = table.len() / 16;
+    let mut certificate = vec![0; n * 8];
+    match certify(table, &mut certificate, &mut vec![0; n * 4]) {
+        Ok(_) => assert_eq!((output, errors.as_str()), (certificate, "")),
+        Err(_) => {
+            let line = printed.lines().next().expect("a refusal has a line");
+            assert_eq!((output, errors), (vec![], format!("{line}\n")));
+        }
+    }
 }
 
 #[test]
 fn cases_a_to_m() {
     for case in document_cases() {
         assert_eq!(output(&case.table), case.printed, "case {}", case.name);
+        assert_writes_certificate(&case.table, case.printed);
     }
 }
 
@@ -46,6 +66,7 @@ fn sample_tables() {
 fn lengths_around_the_longest() {
     for (length, printed) in TABLES_AROUND_THE_LONGEST {
         assert_eq!(output(&vec![0; length]), printed, "{length} bytes");
+        assert_writes_certificate(&vec![0; length], printed);
     }
 }
 
@@ -78,5 +99,13 @@ fn largest_tables() {
     let mut random = Random::of_test("printed largest tables", 33);
     for shape in [chain, register_ring] {
         assert_prints_answer(shape(&mut random, usize::from(MOST_RECORDS)).as_flattened());
+    }
+}
+
+#[test]
+fn arguments_that_mean_nothing() {
+    for words in ["--byte", "--bytes?", "table", "", "--bytes table", "--bytes --bytes", "table --bytes"] {
+        let arguments: Vec<_> = words.split(' ').map(Into::into).collect();
+        assert_complains("certify", &arguments);
     }
 }

@@ -17,16 +17,20 @@ pub const TABLES_AROUND_THE_LONGEST: [(usize, &str); 5] = [
 
 /// All that a run of a program prints, on standard output and on standard error.
 pub struct Printed {
-    pub output: String,
+    pub output: Vec<u8>,
     pub errors: String,
 }
 
 impl Printed {
-    /// The output of a run that prints nothing else.
+    /// The output of a run that prints text and nothing else.
     pub fn output_alone(self) -> String {
         assert_eq!(self.errors, "", "standard error");
-        self.output
+        text(self.output)
     }
+}
+
+fn text(bytes: Vec<u8>) -> String {
+    String::from_utf8(bytes).expect("the program prints text")
 }
 
 /// The named program: the one that the environment has under this name in capitals, or else the one that
@@ -51,8 +55,7 @@ pub fn run(name: &str, arguments: &[PathBuf], input: &[u8], piece: usize) -> Pri
         child.wait_with_output().expect("the program runs to its end")
     });
     assert!(printed.status.code().is_some(), "{name} ended by {}", printed.status);
-    let text = |bytes| String::from_utf8(bytes).expect("the program prints text");
-    Printed { output: text(printed.stdout), errors: text(printed.stderr) }
+    Printed { output: printed.stdout, errors: text(printed.stderr) }
 }
 
 /// Writes an input in pieces, as far as it is read: what is too long need not be read to its end.
@@ -63,6 +66,15 @@ fn write_pieces(mut pipe: impl Write, input: &[u8], piece: usize) {
             written => written.expect("standard input takes the bytes"),
         }
     }
+}
+
+/// Asserts that on these arguments and no input the program prints one line on standard error and nothing else.
+pub fn assert_complains(name: &str, arguments: &[PathBuf]) {
+    let Printed { output, errors } = run(name, arguments, &[], 1);
+    assert_eq!(output, b"", "standard output on {arguments:?}");
+    let line =
+        errors.strip_suffix('\n').unwrap_or_else(|| panic!("no line in {errors:?} on {arguments:?}"));
+    assert!(!line.trim().is_empty() && !line.contains('\n'), "{errors:?} is not one line on {arguments:?}");
 }
 
 /// Asserts that this output is what is printed for the model's answer on a table, with any loop of the table
