@@ -1,8 +1,10 @@
 /* Certificates over lambda-C tables, and the bench beside them, as a static library (rt staticlib capi writes
  * target/staticlib/libcapi.a).
  *
- * A call reads `table` and writes to the buffers that it is lent; no two of the buffers may overlap. Every input gets
- * an answer: bad input is refused with a ground and a place, and no output byte is then changed. */
+ * A call reads `table` and writes to the buffers that it is lent; no two of the buffers may overlap, and no pointer may
+ * be null, not even that of a buffer of length 0. Every input gets an answer: bad input is refused with a ground and a
+ * place (tools/table/README.md lists them), and no output byte is then changed. A call keeps nothing, so that threads
+ * may call at once on buffers of their own. */
 #ifndef LAMBDAC_H
 #define LAMBDAC_H
 

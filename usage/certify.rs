@@ -11,11 +11,9 @@ fn main() {
     let (t, c, s) = (table.as_ptr(), certificate.as_mut_ptr(), scratch.as_mut_ptr());
     // SAFETY: each pointer comes with the length of its buffer, and no two buffers overlap.
     let answer = unsafe { lambdac_certify(t, table.len(), c, certificate.len(), s, scratch.len()) };
-    match answer >> 32 {
-        0 => {
-            let facts: String = certificate[..table.len() / 2].chunks(8).map(|fact| format!(" {}", fact[0])).collect();
-            println!("rounds {answer}, facts{facts}");
-        }
-        ground => println!("refused {ground} at {}", answer as u32),
+    if answer >> 32 != 0 {
+        return println!("refused {} at {}", answer >> 32, answer as u32);
     }
+    let facts: String = certificate[..table.len() / 2].chunks(8).map(|fact| format!(" {}", fact[0])).collect();
+    println!("rounds {answer}, facts{facts}");
 }
