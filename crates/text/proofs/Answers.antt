@@ -71,11 +71,12 @@ module _ (b : Buffers) (long : length (b .output-exit) ≡ length (b .output))
       absurd (omega (arith, rw (p .first) at (stimuli-ground (circuitOf b) s)))
 
 -- what is told of stands in longer buffers too, a certificate in its own
-pub told-within : (a : Certified) (r : Report) (n certificate scratch line room : ℕ) (out : List ℕ) → line ≤ room
-    → CertifiedStands a n certificate scratch → Tells a (n * 8) out r → Within r (n * 8) line → Within r certificate room
-told-within (certified.Accepted k) (Bytes count) n certificate scratch line room out h stands tells within =
-    omega (arith, stands .1, tells)
-told-within (certified.Accepted k) (Line r) n certificate scratch line room out h stands tells within = absurd tells
-told-within (certified.Refused g place) (Bytes count) n certificate scratch line room out h stands tells within =
+pub told-within : (a : Certified) (r : Report) (n certificate scratch line room : ℕ) (out exit : List ℕ) → line ≤ room
+    → CertifiedStands a n certificate scratch → Tells a (n * 8) out exit r → Within r (n * 8) line
+    → Within r certificate room
+told-within (certified.Accepted k) (Bytes count) n certificate scratch line room out exit h stands tells within =
+    omega (arith, stands .1, tells .0)
+told-within (certified.Accepted k) (Line r) n certificate scratch line room out exit h stands tells within = absurd tells
+told-within (certified.Refused g place) (Bytes count) n certificate scratch line room out exit h stands tells within =
     absurd tells
-told-within (certified.Refused g place) (Line r) n certificate scratch line room out h stands tells within = omega arith
+told-within (certified.Refused g place) (Line r) n certificate scratch line room out exit h stands tells within = omega arith

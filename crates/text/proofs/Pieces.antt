@@ -4,14 +4,14 @@ use mathlib.Core.Path.{_≡_, refl, sym, ap, ap₂, _∙_, subst}
 use mathlib.Core.List.{List, [], _∷_, _++_, append-assoc, append-nil}
 use Prim.Native.Nat.{ℕ, suc, _+_, _-_, _/_, _%_, _≤_, _<_}
 use native.Mathlib.Omega.{arith}
-use lib.ListN.{length, set, getD, drop, length-append, length-set}
-use lib.Seq.{drop-length, drop-cons, drop-set-lt, getD-set-same}
+use lib.ListN.{length, set, getD, take, drop, length-append, length-set, take-append-drop}
+use lib.Seq.{drop-length, drop-cons, drop-set-lt, getD-set-same, take-set-le, take-take}
 use Rattle.text.specs.Text.{decimal}
 use Rattle.text.specs.Pieces.{Put}
 use Rattle.text.proofs.Decimal.{decimal-one, decimal-more, decimal-some}
 
 pub put-none : (entry : List ℕ) (from : ℕ) → Put [] entry from entry from
-put-none entry from = record { start = omega arith; long = refl; stands = refl }
+put-none entry from = record { start = omega arith; long = refl; stands = refl; kept = refl }
 
 pub put-one : (entry : List ℕ) (from b : ℕ) → 0 < from → from ≤ length entry
     → Put (b ∷ []) entry from (set entry (from - 1) b) (from - 1)
@@ -24,6 +24,7 @@ put-one entry from b some h =
           ∙ ap₂ _∷_ (getD-set-same entry (from - 1) b 0 (omega arith))
           (ap (λ (k : ℕ). drop k (set entry (from - 1) b)) next
           ∙ drop-set-lt from entry (from - 1) b (omega arith));
+      kept = take-set-le (from - 1) entry (from - 1) b (omega arith);
     }
   where
     next : suc (from - 1) ≡ from
@@ -31,13 +32,19 @@ put-one entry from b some h =
 
 pub put-then : {a b entry middle exit : List ℕ} {from p r : ℕ} → Put a entry from middle p → Put b middle p exit r
     → Put (b ++ a) entry from exit r
-put-then {a} {b} {entry} {from = from} x y =
+put-then {a} {b} {entry} {middle} {from = from} {p = p} {r = r} x y =
     record {
       start = omega (arith, length-append b a, x .start, y .start);
       long = y .long ∙ x .long;
       stands =
           y .stands ∙ ap (λ (l : List ℕ). b ++ l) (x .stands) ∙ sym (append-assoc b a (drop from entry));
+      kept =
+          y .kept
+          ∙ sym (take-take r p middle below) ∙ ap (λ (l : List ℕ). take r l) (x .kept) ∙ take-take r p entry below;
     }
+  where
+    below : r ≤ p
+    below = omega (arith, y .start)
 
 -- the same text in other words
 pub put-as : {a b entry exit : List ℕ} {from r : ℕ} → a ≡ b → Put a entry from exit r → Put b entry from exit r
@@ -45,9 +52,11 @@ put-as {entry = entry} {exit = exit} {from = from} {r = r} e x =
     subst (λ (text : List ℕ). Put text entry from exit r) e x
 
 -- a text that ends where the buffer does
-pub put-whole : {text entry exit : List ℕ} {r : ℕ} → Put text entry (length entry) exit r → drop r exit ≡ text
-put-whole {text} {entry} x =
-    x .stands ∙ ap (λ (l : List ℕ). text ++ l) (drop-length entry) ∙ append-nil text
+pub put-whole : {text entry exit : List ℕ} {r : ℕ} → Put text entry (length entry) exit r
+    → exit ≡ take r entry ++ text
+put-whole {text} {entry} {exit} {r} x =
+    sym (take-append-drop r exit)
+    ∙ ap₂ _++_ (x .kept) (x .stands ∙ ap (λ (l : List ℕ). text ++ l) (drop-length entry) ∙ append-nil text)
 
 -- one byte more
 pub put-before : {text entry middle exit : List ℕ} {b from p r : ℕ} → Put text entry from middle p

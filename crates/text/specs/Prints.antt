@@ -1,9 +1,9 @@
 -- The promise of a call with its text: the call's own promise, and the text of its answer.
 -- Assumes nothing.
 use mathlib.Core.Path.{_≡_}
-use mathlib.Core.List.{List}
+use mathlib.Core.List.{List, _++_}
 use Prim.Native.Nat.{ℕ, _*_, _≤_}
-use lib.ListN.{drop}
+use lib.ListN.{take}
 use Rattle.circuit.specs.declared.refusal.Ground.{Ground}
 use Rattle.circuit.specs.Refusal.{groundNumber}
 use Rattle.schedule.specs.Call.{Buffers, size}
@@ -29,14 +29,15 @@ abbrev pub BenchedStands : Benched → ℕ → ℕ → ℕ → Type 0
 BenchedStands benched.Accepted n values scratch = (n ≤ 4096) × (n ≤ values)
 BenchedStands (benched.Refused g place) n values scratch = ShowsRow g place scratch
 
--- the text from r on is that of the answer of which the certifying call's promise holds
-pub record CertifiesInText (b : Buffers) (out : List ℕ) (r : ℕ) : Type 0 where
+-- the text of the answer of which the certifying call's promise holds fills `out` from r on; what lies before is as it
+-- was
+pub record CertifiesInText (b : Buffers) (out out-exit : List ℕ) (r : ℕ) : Type 0 where
   pub answer : Certified
   pub certifies : Certifies b answer
-  pub text : drop r out ≡ certifiedText answer (size b) (b .output-exit) (b .scratch-exit)
+  pub text : out-exit ≡ take r out ++ certifiedText answer (size b) (b .output-exit) (b .scratch-exit)
 
--- the text from r on is that of the answer of which the bench call's promise holds
-pub record BenchesInText (b : Buffers) (s out : List ℕ) (r : ℕ) : Type 0 where
+-- the text of the answer of which the bench call's promise holds fills `out` from r on; what lies before is as it was
+pub record BenchesInText (b : Buffers) (s out out-exit : List ℕ) (r : ℕ) : Type 0 where
   pub answer : Benched
   pub benches : Benches b s answer
-  pub text : drop r out ≡ benchedText answer (size b) (b .output-exit) (b .scratch-exit)
+  pub text : out-exit ≡ take r out ++ benchedText answer (size b) (b .output-exit) (b .scratch-exit)

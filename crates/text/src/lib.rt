@@ -66,7 +66,7 @@ fn put_certified(
 // What is told of the certifying call's answer where the certificate has so many bytes.
 fn put_report(line: &mut [u8], answer: Certified, bytes: usize) -> Report
     requires { ⌜ 53 ≤ length (now line) ⌝ }
-    ensures { λ r. ⌜ Tells answer bytes (now (line .exit)) r ⌝ }
+    ensures { λ r. ⌜ Tells answer bytes (now (line .entry)) (now (line .exit)) r ⌝ }
     ensures { λ r. ⌜ Within r bytes (length (now (line .entry))) ⌝ }
 {
     match answer {
@@ -100,7 +100,7 @@ pub fn certify_text(
     ensures { λ r. ⌜ CertifiesInText
         (buffers (now (table .entry)) (now (certificate .entry)) (now (scratch .entry))
         (now (certificate .exit)) (now (scratch .exit)))
-        (now (out .exit)) r ⌝ }
+        (now (out .entry)) (now (out .exit)) r ⌝ }
     ensures { λ r. ⌜ (r ≤ 131072) × (131072 ≤ length (now (out .exit))) ⌝ }
 {
     let answer = certify(table, certificate, scratch);
@@ -118,7 +118,7 @@ pub fn certify_bytes(
     ensures { λ r. ⌜ CertifiesInBytes
         (buffers (now (table .entry)) (now (certificate .entry)) (now (scratch .entry))
         (now (certificate .exit)) (now (scratch .exit)))
-        (now (line .exit)) r ⌝ }
+        (now (line .entry)) (now (line .exit)) r ⌝ }
     ensures { λ r. ⌜ Within r (length (now (certificate .exit))) 64 × (64 ≤ length (now (line .exit))) ⌝ }
 {
     let answer = certify(table, certificate, scratch);
@@ -137,7 +137,7 @@ pub fn bench_text(
     ensures { λ r. ⌜ BenchesInText
         (buffers (now (table .entry)) (now (values .entry)) (now (scratch .entry))
         (now (values .exit)) (now (scratch .exit)))
-        (now (stimuli .entry)) (now (out .exit)) r ⌝ }
+        (now (stimuli .entry)) (now (out .entry)) (now (out .exit)) r ⌝ }
     ensures { λ r. ⌜ (r ≤ 131072) × (131072 ≤ length (now (out .exit))) ⌝ }
 {
     let answer = bench(table, stimuli, values, scratch);

@@ -17,7 +17,7 @@ put-refusal-requires : tie.Need-put-refusal-requires
 put-refusal-requires c κs = search needs
 
 returns : tie.Need-returns
-returns c = (rw (c .enum-told .given .1) refl, omega arith)
+returns c = (rw (c .enum-told .given .1) (refl, refl), omega arith)
 
 same-length : tie.Need-same-length
 same-length c = search needs
