@@ -40,9 +40,7 @@ const SEED: u64 = 8;
 
 fn main() {
     let mut random = Random::of_test("benchmarks", SEED);
-    for _ in 0..RANDOM_TABLES {
-        compare_random(&mut random);
-    }
+    compare_variants(&mut random);
     print_head();
     for shape in shapes::for_certify(&mut random) {
         certify_row(&shape);
@@ -50,6 +48,17 @@ fn main() {
     for shape in shapes::for_bench(&mut random) {
         bench_row(&shape);
     }
+}
+
+fn compare_variants(random: &mut Random) {
+    for _ in 0..RANDOM_TABLES {
+        compare_random(random);
+    }
+}
+
+#[test]
+fn variants_answer_alike() {
+    compare_variants(&mut Random::of_test("benchmarks", SEED));
 }
 
 fn compare_random(random: &mut Random) {

@@ -53,47 +53,33 @@ grounds =
 abbrev numbered : ℕ → Ground
 numbered number = getD grounds (number - 1) FixedInput
 
-ground-numbered : (ground : Ground) → numbered (groundNumber ground) ≡ ground
-ground-numbered TableTooLong = refl
-ground-numbered TableNotWhole = refl
-ground-numbered OutputShort = refl
-ground-numbered ScratchShort = refl
-ground-numbered UnknownKind = refl
-ground-numbered BadWidth = refl
-ground-numbered UnknownCode = refl
-ground-numbered UnusedNotZero = refl
-ground-numbered NoSuchVariable = refl
-ground-numbered ValueTooWide = refl
-ground-numbered Loop = refl
-ground-numbered StimuliNotWhole = refl
-ground-numbered TooManyStimuli = refl
-ground-numbered BadStimulus = refl
-ground-numbered NotAnInput = refl
-ground-numbered PokeTooWide = refl
-ground-numbered FixedInput = refl
+-- a ground has its number's place among them
+ground-number : (ground : Ground)
+    → (numbered (groundNumber ground) ≡ ground) × (1 ≤ groundNumber ground) × (groundNumber ground ≤ 17)
+ground-number TableTooLong = (refl, omega arith, omega arith)
+ground-number TableNotWhole = (refl, omega arith, omega arith)
+ground-number OutputShort = (refl, omega arith, omega arith)
+ground-number ScratchShort = (refl, omega arith, omega arith)
+ground-number UnknownKind = (refl, omega arith, omega arith)
+ground-number BadWidth = (refl, omega arith, omega arith)
+ground-number UnknownCode = (refl, omega arith, omega arith)
+ground-number UnusedNotZero = (refl, omega arith, omega arith)
+ground-number NoSuchVariable = (refl, omega arith, omega arith)
+ground-number ValueTooWide = (refl, omega arith, omega arith)
+ground-number Loop = (refl, omega arith, omega arith)
+ground-number StimuliNotWhole = (refl, omega arith, omega arith)
+ground-number TooManyStimuli = (refl, omega arith, omega arith)
+ground-number BadStimulus = (refl, omega arith, omega arith)
+ground-number NotAnInput = (refl, omega arith, omega arith)
+ground-number PokeTooWide = (refl, omega arith, omega arith)
+ground-number FixedInput = (refl, omega arith, omega arith)
 
 pub ground-range : (ground : Ground) → (1 ≤ groundNumber ground) × (groundNumber ground ≤ 17)
-ground-range TableTooLong = (omega arith, omega arith)
-ground-range TableNotWhole = (omega arith, omega arith)
-ground-range OutputShort = (omega arith, omega arith)
-ground-range ScratchShort = (omega arith, omega arith)
-ground-range UnknownKind = (omega arith, omega arith)
-ground-range BadWidth = (omega arith, omega arith)
-ground-range UnknownCode = (omega arith, omega arith)
-ground-range UnusedNotZero = (omega arith, omega arith)
-ground-range NoSuchVariable = (omega arith, omega arith)
-ground-range ValueTooWide = (omega arith, omega arith)
-ground-range Loop = (omega arith, omega arith)
-ground-range StimuliNotWhole = (omega arith, omega arith)
-ground-range TooManyStimuli = (omega arith, omega arith)
-ground-range BadStimulus = (omega arith, omega arith)
-ground-range NotAnInput = (omega arith, omega arith)
-ground-range PokeTooWide = (omega arith, omega arith)
-ground-range FixedInput = (omega arith, omega arith)
+ground-range ground = let n = ground-number ground in (n .1, n .2)
 
 -- a ground's number tells it
 pub ground-told : (g h : Ground) → groundNumber g ≡ groundNumber h → g ≡ h
-ground-told g h e = sym (ground-numbered g) ∙ ap numbered e ∙ ground-numbered h
+ground-told g h e = sym (ground-number g .0) ∙ ap numbered e ∙ ground-number h .0
 
 -- ---- the ground and the place of a refusal
 
