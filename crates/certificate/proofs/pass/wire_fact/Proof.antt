@@ -109,7 +109,9 @@ returns-2 : tie.Need-returns-2
 returns-2 c =
     let x = c .before .before .before .before .before .before .before .before .before .before .before .before .args in
     let is = operator (c .before .before .before .before .before .before .before .before) in
-    let op = c .before .before .before .before .before .before .operator-of .ensures ∙ ap operatorOf (c .before .before .before .before .before .before .before .code-at .ensures) in
+    let op =
+    c .before .before .before .before .before .before .operator-of .ensures
+    ∙ ap operatorOf (c .before .before .before .before .before .before .before .code-at .ensures) in
     let a =
     c .before .before .before .load .ensures
     ∙ ap (factAt (x .cells .now)) (c .before .before .before .before .a-at .ensures)

@@ -102,7 +102,10 @@ loop-again c =
     let byte = getD (x .scratch .now) (x .n + j) 0 in
     let is : f ≡ rule C s v =
     staged-rule C s v byte _ _ _ f (at ∙ register-decoded _ (rw at at (here .2)))
-    (p .1 .1 .1 .1 .0 j (c .before .before .before .before .before .before .before .before .before .loop-test .taken) ∙ ap (λ (u : ℕ). factByte (rule C s u)) (sym (here .0))) (c .before .before .before .before .staged-fact .ensures ∙ ap (factOf byte) (c .before .before .before .before .before .before .value-at .ensures)) in (
+    (p .1 .1 .1 .1 .0 j (c .before .before .before .before .before .before .before .before .before .loop-test .taken)
+    ∙ ap (λ (u : ℕ). factByte (rule C s u)) (sym (here .0)))
+    (c .before .before .before .before .staged-fact .ensures
+    ∙ ap (factOf byte) (c .before .before .before .before .before .before .value-at .ensures)) in (
       omega arith,
       subst (λ (l : List ℕ). Committed C (x .n) (x .cells .now) l (j + 1)) (sym (c .before .before .store .ensures .0))
           (one-committed C (x .n) (circuit-length (x .t .now) (x .n)) (x .cells .now)

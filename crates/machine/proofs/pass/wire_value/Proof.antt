@@ -44,7 +44,8 @@ mul-evaluate : tie.Need-mul-evaluate
 mul-evaluate c = omega (arith, operator (c .before .before .before) .a-below, c .a-at .ensures)
 
 shared-slice-read-evaluate : tie.Need-shared-slice-read-evaluate
-shared-slice-read-evaluate c = omega (arith, operator (c .before .before .before .before) .a-below, c .before .a-at .ensures)
+shared-slice-read-evaluate c =
+    omega (arith, operator (c .before .before .before .before) .a-below, c .before .a-at .ensures)
 
 b-at-requires : tie.Need-b-at-requires
 b-at-requires c κs = search needs
@@ -74,7 +75,8 @@ mul-multiplex : tie.Need-mul-multiplex
 mul-multiplex c = omega (arith, multiplexer (c .before .before) .a-below, c .a-at2 .ensures)
 
 shared-slice-read-multiplex : tie.Need-shared-slice-read-multiplex
-shared-slice-read-multiplex c = omega (arith, multiplexer (c .before .before .before) .a-below, c .before .a-at2 .ensures)
+shared-slice-read-multiplex c =
+    omega (arith, multiplexer (c .before .before .before) .a-below, c .before .a-at2 .ensures)
 
 b-at-requires-2 : tie.Need-b-at-requires-2
 b-at-requires-2 c κs = search needs
