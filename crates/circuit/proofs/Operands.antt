@@ -14,7 +14,7 @@ use Rattle.circuit.specs.declared.record.Record.the-variants.{Constant, 
 use Rattle.circuit.specs.declared.refusal.Check.the-variants.{Passed}
 use Rattle.circuit.specs.Operator.{operatorOf}
 use Rattle.circuit.specs.Record.{width, uses, role}
-use Rattle.circuit.specs.Reading.{fieldsAt, codes, decode}
+use Rattle.circuit.specs.Reading.{fieldsAt, decode}
 use Rattle.circuit.specs.Circuit.{circuit, recordOf}
 use Rattle.circuit.specs.Checks.{checkRecords}
 use Rattle.circuit.proofs.Decoding.{decode-width, decode-constant, decode-operator}
@@ -43,7 +43,6 @@ module _ (t : List ℕ) (n v : ℕ) where
   pub record OperatorHere : Type 0 where
     pub is : here ≡ Operator (f .width) (operatorOf (f .code)) (f .a) (f .b)
     pub width-most : f .width ≤ 32
-    pub code-below : f .code < 9
     pub a-below : f .a < n
     pub b-below : f .b < n
 
@@ -74,7 +73,6 @@ module _ (t : List ℕ) (n v : ℕ) where
           record {
             is = q;
             width-most = records-valid t n ok v h .width-most;
-            code-below = subst (λ (k : ℕ). f .code < codes k) e (records-valid t n ok v h .code);
             a-below = used _ q (f .a) (member-1 _ _);
             b-below = used _ q (f .b) (member-2 _ _ _);
           }

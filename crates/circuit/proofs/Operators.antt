@@ -1,7 +1,7 @@
 -- Laws of the operators, at every width.
 -- Assumes nothing.
 use mathlib.Core.Path.{_≡_, refl, sym, ap, _∙_, subst}
-use Prim.Native.Nat.{ℕ, zero, suc, _+_, _-_, _*_, _/_, _%_, _^_, _<_, _≤_}
+use Prim.Native.Nat.{ℕ, _+_, _-_, _*_, _/_, _%_, _^_, _<_, _≤_}
 use native.Mathlib.Nat.{mod-lt, mod-add-mod, add-mod-right, add-mul-mod-self-right, div-add-mod', sub-add-cancel}
 use native.Mathlib.Omega.{arith}
 use lib.Pow.{pow-pos, mod-mod-pow}
@@ -66,19 +66,6 @@ result-of-code Equal w a b = refl
 result-of-code Less w a b = refl
 result-of-code ShiftLeft w a b = refl
 result-of-code ShiftRight w a b = refl
-
--- a code below 9 has the result of its operator
-pub code-result : (code w a b : ℕ) → code < 9 → resultOfCode code w a b ≡ result (operatorOf code) w a b
-code-result zero w a b h = refl
-code-result (suc zero) w a b h = refl
-code-result (suc (suc zero)) w a b h = refl
-code-result (suc (suc (suc zero))) w a b h = refl
-code-result (suc (suc (suc (suc zero)))) w a b h = refl
-code-result (suc (suc (suc (suc (suc zero))))) w a b h = refl
-code-result (suc (suc (suc (suc (suc (suc zero)))))) w a b h = refl
-code-result (suc (suc (suc (suc (suc (suc (suc zero))))))) w a b h = refl
-code-result (suc (suc (suc (suc (suc (suc (suc (suc zero)))))))) w a b h = refl
-code-result (suc (suc (suc (suc (suc (suc (suc (suc (suc code))))))))) w a b h = absurd (omega arith)
 
 -- ---- what 32 bits hold, at every width
 

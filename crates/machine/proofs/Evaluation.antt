@@ -2,13 +2,14 @@
 -- Assumes nothing.
 use mathlib.Core.Path.{_≡_}
 use mathlib.Core.List.{List}
-use Prim.Native.Nat.{ℕ, _%_, _^_, _<_}
+use Prim.Native.Nat.{ℕ, _%_, _^_}
 use lib.ListN.{getD}
+use Rattle.circuit.specs.declared.operator.Operator as operator
 use Rattle.circuit.specs.declared.record.Record.the-variants.{Constant, Operator, Multiplexer, Register}
-use Rattle.circuit.specs.Operator.{operatorOf, resultOfCode}
+use Rattle.circuit.specs.Operator.{operatorCode, resultOfCode}
 use Rattle.circuit.specs.Circuit.{Circuit, recordOf}
 use Rattle.circuit.specs.Machine as machine
-use Rattle.circuit.proofs.Operators.{code-result}
+use Rattle.circuit.proofs.Operators.{result-of-code}
 use Rattle.machine.specs.State.{state}
 
 module _ (c : Circuit) (v : ℕ) (values : List ℕ) where
@@ -16,10 +17,10 @@ module _ (c : Circuit) (v : ℕ) (values : List ℕ) where
   unfolding machine.values
   constant-value w n e = rw (e, machine.value)
 
-  pub operator-value : (w code a b : ℕ) → code < 9 → recordOf c v ≡ Operator w (operatorOf code) a b
-      → resultOfCode code w (getD values a 0) (getD values b 0) ≡ machine.values c (state values) v
+  pub operator-value : (w : ℕ) (op : operator.Operator) (a b : ℕ) → recordOf c v ≡ Operator w op a b
+      → resultOfCode (operatorCode op) w (getD values a 0) (getD values b 0) ≡ machine.values c (state values) v
   unfolding machine.values
-  operator-value w code a b h e = rw (code-result code w (getD values a 0) (getD values b 0) h, e, machine.value)
+  operator-value w op a b e = rw (result-of-code op w (getD values a 0) (getD values b 0), e, machine.value)
 
   pub multiplexer-value : (w a b d : ℕ) → recordOf c v ≡ Multiplexer w a b d
       → machine.multiplex w (getD values a 0) (getD values b 0) (getD values d 0) ≡ machine.values c (state values) v

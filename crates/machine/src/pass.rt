@@ -13,8 +13,10 @@ ghost use Rattle.machine.specs.State.{state, Holds};
 use circuit::number::wide;
 use circuit::operator::evaluate;
 use circuit::operator::multiplex;
+use circuit::operator::operator_code;
 use circuit::operator::remainder;
 use circuit::record::initial_value;
+use circuit::record::operator_of;
 use circuit::table::a_at;
 use circuit::table::b_at;
 use circuit::table::c_at;
@@ -47,12 +49,10 @@ fn wire_value(t: &[u8], n: usize, values: &[u32], v: usize) -> u32
     let kind = kind_at(t, v);
     match kind {
         1 => value_at(t, v),
-        2 => evaluate(
-            code_at(t, v),
-            width_at(t, v),
-            values[a_at(t, v)],
-            values[b_at(t, v)],
-        ),
+        2 => {
+            let code = operator_code(operator_of(code_at(t, v)));
+            evaluate(code, width_at(t, v), values[a_at(t, v)], values[b_at(t, v)])
+        }
         _ => {
             multiplex(
                 width_at(t, v),

@@ -1,7 +1,8 @@
 -- What the record gives by its kind, on the numbers that are read at its operands.
 -- Assumes nothing.
-use mathlib.Core.Path.{sym, _∙_}
+use mathlib.Core.Path.{sym, ap, _∙_}
 use native.Mathlib.Omega.{arith}
+use Rattle.circuit.specs.Operator.{operatorCode, operatorOf}
 use Rattle.circuit.specs.Circuit.{circuit}
 use Rattle.circuit.proofs.Operands.{OperatorHere, MultiplexerHere, constant-here, operator-here, multiplexer-here}
 use Rattle.machine.proofs.Evaluation.{constant-value, operator-value, multiplexer-value}
@@ -34,6 +35,12 @@ value-at-requires c κs = search needs
 code-at-requires : tie.Need-code-at-requires
 code-at-requires c κs = search needs
 
+operator-of-requires : tie.Need-operator-of-requires
+operator-of-requires c κs = search needs
+
+operator-code-requires : tie.Need-operator-code-requires
+operator-code-requires c κs = search needs
+
 width-at-requires : tie.Need-width-at-requires
 width-at-requires c κs = search needs
 
@@ -41,27 +48,27 @@ a-at-requires : tie.Need-a-at-requires
 a-at-requires c κs = search needs
 
 mul-evaluate : tie.Need-mul-evaluate
-mul-evaluate c = omega (arith, operator (c .before .before .before) .a-below, c .a-at .ensures)
+mul-evaluate c = omega (arith, operator (c .before .before .before .before .before) .a-below, c .a-at .ensures)
 
 shared-slice-read-evaluate : tie.Need-shared-slice-read-evaluate
 shared-slice-read-evaluate c =
-    omega (arith, operator (c .before .before .before .before) .a-below, c .before .a-at .ensures)
+    omega (arith, operator (c .before .before .before .before .before .before) .a-below, c .before .a-at .ensures)
 
 b-at-requires : tie.Need-b-at-requires
 b-at-requires c κs = search needs
 
 mul-evaluate-2 : tie.Need-mul-evaluate-2
-mul-evaluate-2 c = omega (arith, operator (c .before .before .before .before .before) .b-below, c .b-at .ensures)
+mul-evaluate-2 c = omega (arith, operator (c .before .before .before .before .before .before .before) .b-below, c .b-at .ensures)
 
 shared-slice-read-evaluate-2 : tie.Need-shared-slice-read-evaluate-2
 shared-slice-read-evaluate-2 c =
-    omega (arith, operator (c .before .before .before .before .before .before) .b-below, c .before .b-at .ensures)
+    omega (arith, operator (c .before .before .before .before .before .before .before .before) .b-below, c .before .b-at .ensures)
 
 evaluate-requires : tie.Need-evaluate-requires
 evaluate-requires c κs =
     omega (
       arith,
-      operator (c .before .before .before .before .before .before) .width-most,
+      operator (c .before .before .before .before .before .before .before .before) .width-most,
       c .before .before .before .before .width-at .ensures,
     )
 
@@ -122,17 +129,21 @@ returns c =
 
 returns-2 : tie.Need-returns-2
 returns-2 c =
-    let o = c .before .before .before .before .before .before .before in
+    let o = c .before .before .before .before .before .before .before .before .before in
     let x = o .before .before .before .before .args in
+    let code =
+    c .before .before .before .before .before .before .operator-code .ensures
+    ∙ ap operatorCode
+    (c .before .before .before .before .before .before .before .operator-of .ensures
+    ∙ ap operatorOf (c .before .before .before .before .before .before .before .before .code-at .ensures)) in
     c .evaluate .ensures
     ∙ rw (
-      c .before .before .before .before .before .before .code-at .ensures,
+      code,
       c .before .before .before .before .before .width-at .ensures,
       c .before .before .before .before .a-at .ensures,
       c .before .before .b-at .ensures,
     )
-    (operator-value (circuit (x .t .now) (x .n)) (x .v) (x .values .now) _ _ _ _ (operator o .code-below)
-    (operator o .is))
+    (operator-value (circuit (x .t .now) (x .n)) (x .v) (x .values .now) _ _ _ _ (operator o .is))
 
 returns-3 : tie.Need-returns-3
 returns-3 c =
@@ -154,6 +165,8 @@ wire-value-spec =
     kind-at-requires
     value-at-requires
     code-at-requires
+    operator-of-requires
+    operator-code-requires
     width-at-requires
     a-at-requires
     mul-evaluate
