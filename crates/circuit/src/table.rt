@@ -15,12 +15,10 @@ use crate::record::fields_at;
 // which are 0, 1, 3, 4 and 0, stand in one number of base 16: no branch depends on which kind it is.
 pub fn wire_uses(t: &[u8], v: usize) -> u16
     requires { ⌜ v * 16 + 16 ≤ length (now t) ⌝ }
+    requires { ⌜ fieldsAt (now t) (v * 16) .kind ≤ 4 ⌝ }
     ensures { λ r. ⌜ r ≡ wireUses (decode (fieldsAt (now (t .entry)) (v * 16))) ⌝ }
 {
     let kind = t[v * 16];
-    if 4 < kind {
-        return 0;
-    }
     ((0x4310u32 >> (kind * 4)) % 16) as u16
 }
 

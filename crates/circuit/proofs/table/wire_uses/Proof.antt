@@ -1,10 +1,9 @@
--- The kind's digit; what is past the kinds is no wire.
+-- The kind's digit.
 -- Assumes nothing.
 use borrow.Author.Needs.{needs}
 use Prim.Native.Nat.{_*_}
-use native.Mathlib.Omega.{arith}
 use Rattle.circuit.specs.Reading.{fieldsAt}
-use Rattle.circuit.proofs.Decoding.{decode-register, wireUses-digit}
+use Rattle.circuit.proofs.Decoding.{wireUses-digit}
 use Rattle.circuit.proofs.table.wire_uses.Statement.{statement}
 use Rattle.circuit.proofs.table.wire_uses.Tie as tie
 
@@ -13,11 +12,6 @@ mul-kind c = search needs
 
 shared-slice-read-kind : tie.Need-shared-slice-read-kind
 shared-slice-read-kind c = search needs
-
-returns : tie.Need-returns
-returns c =
-    rw (decode-register (fieldsAt (c .before .before .args .t .now) (c .before .before .args .v * 16))
-    (omega (arith, c .if1 .taken)))
 
 mul-result : tie.Need-mul-result
 mul-result c = search needs
@@ -31,19 +25,10 @@ shr-result c = search needs
 cast-result-2 : tie.Need-cast-result-2
 cast-result-2 c = search needs
 
-returns-2 : tie.Need-returns-2
-returns-2 c =
-    wireUses-digit (fieldsAt (c .before .before .args .t .now) (c .before .before .args .v * 16)) (c .if1 .left)
+returns : tie.Need-returns
+returns c = wireUses-digit (fieldsAt (c .before .args .t .now) (c .before .args .v * 16)) (c .before .pre .1)
 
 pub wire-uses-spec : {M : Type 1} → statement M
 wire-uses-spec =
     tie.close
-    (tie.spec
-    mul-kind
-    shared-slice-read-kind
-    returns
-    mul-result
-    cast-result
-    shr-result
-    cast-result-2
-    returns-2)
+    (tie.spec mul-kind shared-slice-read-kind mul-result cast-result shr-result cast-result-2 returns)
