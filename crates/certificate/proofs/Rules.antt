@@ -1,61 +1,29 @@
--- The rule of a variable, by what its record reads as: its width is at most 32 and its operands are variables of the
--- table.
+-- The rule of a variable, by what its record is, on facts that were loaded.
 -- Assumes nothing.
-use mathlib.Core.Path.{_≡_, sym, ap}
-use mathlib.Core.List.{List}
-use Prim.Native.Nat.{ℕ, _*_, _<_, _≤_}
+use mathlib.Core.Path.{_≡_}
+use Prim.Native.Nat.{ℕ}
 use Rattle.circuit.specs.declared.operator.Operator as operator
-use Rattle.circuit.specs.declared.record.InputKind.{InputKind}
-use Rattle.circuit.specs.declared.record.Record.{Record}
-use Rattle.circuit.specs.declared.record.Record.the-variants.{Input, Constant, Operator, Multiplexer, Register}
-use Rattle.circuit.specs.declared.refusal.Check.the-variants.{Passed}
-use Rattle.circuit.specs.Reading.{fieldsAt, decode}
-use Rattle.circuit.specs.Circuit.{circuit}
-use Rattle.circuit.specs.Checks.{checkRecords}
-use Rattle.circuit.proofs.Operands.{record-here, width-here, operator-uses, multiplexer-uses, register-uses}
+use Rattle.circuit.specs.declared.record.Record.the-variants.{Constant, Operator, Multiplexer, Register}
+use Rattle.circuit.specs.Circuit.{Circuit, recordOf}
 use Rattle.fact.specs.declared.Fact.{Fact}
 use Rattle.fact.specs.declared.Fact.the-variants.{Always}
-use Rattle.fact.specs.Rule.{inputRule, operatorRule, multiplexerRule, registerRule, ruleOf, rule}
+use Rattle.fact.specs.Rule.{operatorRule, multiplexerRule, registerRule, ruleOf, rule}
 
-module _ (t : List ℕ) (n : ℕ) (ok : checkRecords t n ≡ Passed) (v : ℕ) (h : v < n) (r : Record)
-    (e : r ≡ decode (fieldsAt t (v * 16))) where
-  pub input-here : (w : ℕ) (k : InputKind) → r ≡ Input w k → (s : ℕ → Fact) → inputRule k ≡ rule (circuit t n) s v
+module _ (c : Circuit) (v : ℕ) (s : ℕ → Fact) where
+  pub constant-rule : (w n : ℕ) → recordOf c v ≡ Constant w n → Always n ≡ rule c s v
   unfolding rule
-  input-here w k q s = sym (ap (λ (x : Record). ruleOf x s) (record-here t n v h r e _ q))
+  constant-rule w n e = rw (e, ruleOf)
 
-  pub constant-here : (w k : ℕ) → r ≡ Constant w k → (s : ℕ → Fact) → Always k ≡ rule (circuit t n) s v
+  pub operator-rule : (w : ℕ) (op : operator.Operator) (a b : ℕ) → recordOf c v ≡ Operator w op a b
+      → operatorRule op w (s a) (s b) ≡ rule c s v
   unfolding rule
-  constant-here w k q s = sym (ap (λ (x : Record). ruleOf x s) (record-here t n v h r e _ q))
+  operator-rule w op a b e = rw (e, ruleOf)
 
-  pub operator-here : (w : ℕ) (op : operator.Operator) (a b : ℕ) → r ≡ Operator w op a b
-      → (w ≤ 32) × (a < n) × (b < n) × ((s : ℕ → Fact) → operatorRule op w (s a) (s b) ≡ rule (circuit t n) s v)
+  pub multiplexer-rule : (w a b d : ℕ) → recordOf c v ≡ Multiplexer w a b d
+      → multiplexerRule w (s a) (s b) (s d) ≡ rule c s v
   unfolding rule
-  operator-here w op a b q =
-      let uses = operator-uses t n v h r e ok w op a b q in (
-        width-here t n v h r e ok _ q,
-        uses .0,
-        uses .1,
-        λ s. sym (ap (λ (x : Record). ruleOf x s) (record-here t n v h r e _ q)),
-      )
+  multiplexer-rule w a b d e = rw (e, ruleOf)
 
-  pub multiplexer-here : (w a b c : ℕ) → r ≡ Multiplexer w a b c
-      → (w ≤ 32) × (a < n) × (b < n) × (c < n) ×
-      ((s : ℕ → Fact) → multiplexerRule w (s a) (s b) (s c) ≡ rule (circuit t n) s v)
+  pub register-rule : (w a n : ℕ) → recordOf c v ≡ Register w a n → registerRule w n (s a) ≡ rule c s v
   unfolding rule
-  multiplexer-here w a b c q =
-      let uses = multiplexer-uses t n v h r e ok w a b c q in (
-        width-here t n v h r e ok _ q,
-        uses .0,
-        uses .1,
-        uses .2,
-        λ s. sym (ap (λ (x : Record). ruleOf x s) (record-here t n v h r e _ q)),
-      )
-
-  pub register-here : (w a k : ℕ) → r ≡ Register w a k
-      → (w ≤ 32) × (a < n) × ((s : ℕ → Fact) → registerRule w k (s a) ≡ rule (circuit t n) s v)
-  unfolding rule
-  register-here w a k q = (
-    width-here t n v h r e ok _ q,
-    register-uses t n v h r e ok w a k q,
-    λ s. sym (ap (λ (x : Record). ruleOf x s) (record-here t n v h r e _ q)),
-  )
+  register-rule w a n e = rw (e, ruleOf)

@@ -14,13 +14,10 @@ use lib.Dec.{eqb}
 use lib.ListN.{length, getD, set, length-set}
 use lib.Seq.{sets, getD-set-same, getD-set-other}
 use Rattle.net.specs.Tests.{allBelow}
-use Rattle.net.specs.Net.{register, step}
+use Rattle.net.specs.Net.{step}
 use Rattle.net.proofs.Bools.{cond-case}
-use Rattle.circuit.specs.declared.record.Record.{Record}
-use Rattle.circuit.specs.declared.record.Record.the-variants.{Input, Constant, Operator, Multiplexer, Register}
-use Rattle.circuit.specs.Record.{role}
+use Rattle.circuit.specs.declared.record.Record.the-variants.{Register}
 use Rattle.circuit.specs.Circuit.{Circuit, recordOf, graph}
-use Rattle.circuit.specs.Machine.{initial}
 use Rattle.fact.specs.declared.Fact.{Fact}
 use Rattle.fact.specs.declared.Fact.the-variants.{Always, Open, Marked}
 use Rattle.fact.specs.Fact.{same, join, narrow, factByte, factNumber, factBytes, factOf}
@@ -31,7 +28,7 @@ use Rattle.schedule.proofs.Filled.{outside-none, outside-set}
 use Rattle.schedule.proofs.Registers.{registerList-register}
 use Rattle.schedule.proofs.Together.{Stepped, none-stepped, one-stepped, all-stepped}
 use Rattle.certificate.specs.Cells.{storeOf, Written}
-use Rattle.certificate.specs.Staging.{StagedTo, staysAt, stagedFact}
+use Rattle.certificate.specs.Staging.{StagedTo, staysAt}
 use Rattle.certificate.proofs.Cells.{written-store, store-here, store-elsewhere}
 
 -- ---- a staged byte gives the register's fact back
@@ -41,14 +38,6 @@ join-back (Always m) p =
     cond-case (λ f. factOf (factByte f) p ≡ f) (eqb m p) (λ e. ap Always (sym (eqb-true m p e))) (λ e. refl)
 join-back Open p = refl
 join-back Marked p = refl
-
-pub staged-back : (r : Record) (s : ℕ → Fact) → role r ≡ register → stagedFact r (factByte (ruleOf r s)) ≡ ruleOf r s
-unfolding ruleOf
-staged-back (Input w k) s e = let z : _≡_ {A = ℕ} 0 1 = cc in absurd (omega arith)
-staged-back (Constant w n) s e = let z : _≡_ {A = ℕ} 0 1 = cc in absurd (omega arith)
-staged-back (Operator w op a b) s e = let z : _≡_ {A = ℕ} 0 1 = cc in absurd (omega arith)
-staged-back (Multiplexer w a b c) s e = let z : _≡_ {A = ℕ} 0 1 = cc in absurd (omega arith)
-staged-back (Register w a n) s e = join-back (narrow w (s a)) n
 
 -- ---- staging
 
@@ -125,7 +114,7 @@ module _ (c : Circuit) (n : ℕ) (size : length c ≡ n) (entry cells : List ℕ
       all-stepped c (rule c) (storeOf entry n) (storeOf cells n) j (p .stepped) all few v (omega arith)
 
 -- the fact that is written is the register's rule's
-pub staged-rule : (c : Circuit) (s : ℕ → Fact) (v byte : ℕ) (r : Record) (f : Fact) → role (recordOf c v) ≡ register
-    → r ≡ recordOf c v → byte ≡ factByte (rule c s v) → f ≡ stagedFact r byte → f ≡ rule c s v
+pub staged-rule : (c : Circuit) (s : ℕ → Fact) (v byte w a n : ℕ) (f : Fact) → recordOf c v ≡ Register w a n
+    → byte ≡ factByte (rule c s v) → f ≡ factOf byte n → f ≡ rule c s v
 unfolding rule
-staged-rule c s v byte r f is-register is staged e = e ∙ rw (is, staged) (staged-back (recordOf c v) s is-register)
+staged-rule c s v byte w a n f is staged e = e ∙ rw (staged, is, ruleOf) (join-back (narrow w (s a)) n)

@@ -6,11 +6,9 @@ use mathlib.Core.Bool.{Bool}
 use mathlib.Core.List.{List}
 use Prim.Native.Nat.{ℕ, _+_, _<_}
 use lib.ListN.{getD}
-use Rattle.circuit.specs.declared.record.Record.{Record}
 use Rattle.circuit.specs.Circuit.{Circuit}
-use Rattle.circuit.specs.Machine.{initial}
 use Rattle.fact.specs.declared.Fact.{Fact}
-use Rattle.fact.specs.Fact.{same, factByte, factOf}
+use Rattle.fact.specs.Fact.{same, factByte}
 use Rattle.fact.specs.Rule.{rule}
 use Rattle.schedule.specs.Schedule.{registerList}
 
@@ -21,8 +19,3 @@ StagedTo c s scratch at k = (j : ℕ) → j < k → getD scratch (at + j) 0 ≡ 
 -- register j stays as it is
 abbrev pub staysAt : Circuit → (ℕ → Fact) → ℕ → Bool
 staysAt c s j = same (rule c s (getD (registerList c) j 0)) (s (getD (registerList c) j 0))
-
--- the fact of a byte 0 that was staged for a register: a register that is always one number is always its power-on
--- value
-abbrev pub stagedFact : Record → ℕ → Fact
-stagedFact r byte = factOf byte (initial r)

@@ -4,6 +4,7 @@ ghost use Prim.Native.Nat.{ℕ, _*_, _≤_, _<_};
 ghost use lib.ListN.{length, take};
 ghost use Rattle.net.specs.Net.{listBelow};
 ghost use Rattle.circuit.specs.declared.refusal.Check.the-variants.{Passed};
+ghost use Rattle.circuit.specs.Record.{role};
 ghost use Rattle.circuit.specs.Circuit.{circuit, recordOf, graph};
 ghost use Rattle.circuit.specs.Checks.{checkRecords};
 ghost use Rattle.fact.specs.Rule.{rule};
@@ -13,7 +14,15 @@ ghost use Rattle.net.specs.Net as net;
 ghost use Rattle.certificate.specs.Cells.{facts, storeOf, Written};
 use circuit::number::wide;
 use circuit::record::Record;
+use circuit::record::operator_of;
+use circuit::table::a_at;
+use circuit::table::b_at;
+use circuit::table::c_at;
+use circuit::table::code_at;
+use circuit::table::kind_at;
 use circuit::table::record_at;
+use circuit::table::value_at;
+use circuit::table::width_at;
 use fact::Fact;
 use fact::cell::load;
 use fact::cell::store;
@@ -47,29 +56,44 @@ pub fn write_initial(t: &[u8], n: usize, cells: &mut [u8])
     }
 }
 
-// What variable v's rule gives.
-pub fn rule_fact(t: &[u8], n: usize, cells: &[u8], v: usize) -> Fact
+// What wire v's rule gives. It is no input and no register, so what is no constant and no operator is a multiplexer.
+fn wire_fact(t: &[u8], n: usize, cells: &[u8], v: usize) -> Fact
     requires { ⌜ (n * 16 ≤ length (now t)) × (n * 8 ≤ length (now cells)) × (v < n) ⌝ }
     requires { ⌜ checkRecords (now t) n ≡ Passed ⌝ }
+    requires { ⌜ role (recordOf (circuit (now t) n) v) ≡ net.wire ⌝ }
     ensures { λ r. ⌜ r ≡ rule (circuit (now (t .entry)) n) (storeOf (now (cells .entry)) n) v ⌝ }
 {
-    let r = record_at(t, v);
-    match r {
-        Record::Input(_, kind) => input_rule(kind),
-        Record::Constant(_, value) => Fact::Always(value),
-        Record::Operator(w, op, a, b) => {
-            operator_rule(op, w, load(cells, wide(a)), load(cells, wide(b)))
-        }
-        Record::Multiplexer(w, a, b, c) => {
-            multiplexer_rule(
-                w,
-                load(cells, wide(a)),
-                load(cells, wide(b)),
-                load(cells, wide(c)),
+    let kind = kind_at(t, v);
+    match kind {
+        1 => Fact::Always(value_at(t, v)),
+        2 => {
+            let op = operator_of(code_at(t, v));
+            operator_rule(
+                op,
+                width_at(t, v),
+                load(cells, a_at(t, v)),
+                load(cells, b_at(t, v)),
             )
         }
-        Record::Register(w, a, value) => register_rule(w, value, load(cells, wide(a))),
+        _ => {
+            multiplexer_rule(
+                width_at(t, v),
+                load(cells, a_at(t, v)),
+                load(cells, b_at(t, v)),
+                load(cells, c_at(t, v)),
+            )
+        }
     }
+}
+
+// What register v's rule gives.
+pub fn register_fact(t: &[u8], n: usize, cells: &[u8], v: usize) -> Fact
+    requires { ⌜ (n * 16 ≤ length (now t)) × (n * 8 ≤ length (now cells)) × (v < n) ⌝ }
+    requires { ⌜ checkRecords (now t) n ≡ Passed ⌝ }
+    requires { ⌜ role (recordOf (circuit (now t) n) v) ≡ net.register ⌝ }
+    ensures { λ r. ⌜ r ≡ rule (circuit (now (t .entry)) n) (storeOf (now (cells .entry)) n) v ⌝ }
+{
+    register_rule(width_at(t, v), value_at(t, v), load(cells, a_at(t, v)))
 }
 
 // The wires take their facts, one after the other along their order.
@@ -85,7 +109,7 @@ pub fn settle(t: &[u8], n: usize, scratch: &[u16], wires: usize, cells: &mut [u8
     let mut i: usize = 0;
     while i < wires {
         let v = wide(scratch[i]);
-        let f = rule_fact(t, n, cells, v);
+        let f = wire_fact(t, n, cells, v);
         store(cells, v, f);
         i += 1;
     }

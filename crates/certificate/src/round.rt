@@ -15,14 +15,12 @@ ghost use Rattle.schedule.specs.Schedule.{registerList, Listed};
 ghost use Rattle.schedule.specs.Scratch.{KeptOutside};
 ghost use Rattle.certificate.specs.Cells.{storeOf, Written};
 ghost use Rattle.certificate.specs.Ready.{Ready};
-ghost use Rattle.certificate.specs.Staging.{StagedTo, staysAt, stagedFact};
-use crate::pass::rule_fact;
+ghost use Rattle.certificate.specs.Staging.{StagedTo, staysAt};
+use crate::pass::register_fact;
 use crate::pass::settle;
 use circuit::number::wide;
 use circuit::number::wide16;
-use circuit::record::Record;
-use circuit::record::initial_value;
-use circuit::table::record_at;
+use circuit::table::value_at;
 use fact::Fact;
 use fact::cell::byte;
 use fact::cell::load;
@@ -81,7 +79,7 @@ pub fn stage(
     let mut j: usize = 0;
     while j < registers {
         let v = wide(scratch[first + j]);
-        let f = rule_fact(t, n, cells, v);
+        let f = register_fact(t, n, cells, v);
         scratch[n + j] = wide16(byte(f));
         changed = either(differs(f, load(cells, v)), changed);
         j += 1;
@@ -89,13 +87,13 @@ pub fn stage(
     changed
 }
 
-// The fact of a register's staged byte.
-fn staged_fact(r: Record, byte: u16) -> Fact
-    ensures { λ f. ⌜ f ≡ stagedFact r byte ⌝ }
+// The fact of a register's staged byte: a register that is always one number is always its power-on value n.
+fn staged_fact(n: u32, byte: u16) -> Fact
+    ensures { λ f. ⌜ f ≡ facts.factOf byte n ⌝ }
 {
     match byte {
         0 => Fact::MARKED,
-        1 => Fact::Always(initial_value(r)),
+        1 => Fact::Always(n),
         2 => Fact::Open,
         3..=65535 => Fact::MARKED,
     }
@@ -116,7 +114,7 @@ pub fn commit(t: &[u8], n: usize, scratch: &[u16], first: usize, registers: usiz
     let mut j: usize = 0;
     while j < registers {
         let v = wide(scratch[first + j]);
-        let f = staged_fact(record_at(t, v), scratch[n + j]);
+        let f = staged_fact(value_at(t, v), scratch[n + j]);
         store(cells, v, f);
         j += 1;
     }

@@ -2,16 +2,17 @@
 -- Assumes nothing.
 use mathlib.Core.Path.{_≡_, refl, ap}
 use mathlib.Core.List.{List, [], _∷_}
-use Prim.Native.Nat.{ℕ, zero, suc, _+_, _*_, _≤_, _<_}
+use Prim.Native.Nat.{ℕ, zero, suc, _+_, _*_, _/_, _%_, _^_, _≤_, _<_}
 use native.Mathlib.Omega.{arith}
 use borrow.Author.Tests.{le-leb}
 use lib.Dec.{leb}
 use lib.ListN.{getD, List·getD-eq-default}
+use Rattle.net.specs.Net.{Role, input, wire, register}
 use Rattle.circuit.specs.declared.record.Fields.{Fields}
 use Rattle.circuit.specs.declared.record.Record.the-variants.{Input, Constant, Operator, Multiplexer, Register}
 use Rattle.circuit.specs.Number.{u16At}
 use Rattle.circuit.specs.Operator.{operatorOf}
-use Rattle.circuit.specs.Record.{width, uses, wireUses, isRegister}
+use Rattle.circuit.specs.Record.{width, uses, role, wireUses, isRegister}
 use Rattle.circuit.specs.Reading.{fieldsAt, inputKindOf, firstKinds, decode}
 
 module _ (f : Fields) where
@@ -50,6 +51,39 @@ wireUses-most f =
     (λ e. rw (decode-operator f e) (omega arith))
     (λ e. rw (decode-multiplexer f e) (omega arith))
     (λ h. rw (decode-register f h) (omega arith))
+
+-- the digits of base 16 from which the code takes it
+pub wireUses-digit : (f : Fields) → f .kind ≤ 4 → 17168 / 2 ^ (f .kind * 4) % 16 ≡ wireUses (decode f)
+wireUses-digit f h =
+    by-kind (f .kind)
+    (λ e. rw (decode-input f e, e))
+    (λ e. rw (decode-constant f e, e))
+    (λ e. rw (decode-operator f e, e))
+    (λ e. rw (decode-multiplexer f e, e))
+    (λ g. let e : f .kind ≡ 4 = omega arith in rw (decode-register f g, e))
+
+role-differs : (x y : Role) → x ≡ y → (x ≡ y → _≡_ {A = ℕ} 0 1) → ⊥
+role-differs x y e z = absurd (let q : _≡_ {A = ℕ} 0 1 = z e in omega arith)
+
+-- a wire that is neither a constant nor an operator is a multiplexer
+pub wire-multiplexer : (f : Fields) → role (decode f) ≡ wire → (f .kind ≡ 1 → ⊥) → (f .kind ≡ 2 → ⊥)
+    → decode f ≡ Multiplexer (f .width) (f .a) (f .b) (f .c)
+wire-multiplexer f e one two =
+    by-kind (f .kind)
+    (λ k. absurd (role-differs input wire (rw (decode-input f k) at e) (λ z. cc)))
+    (λ k. absurd (one k))
+    (λ k. absurd (two k))
+    (λ k. decode-multiplexer f k)
+    (λ k. absurd (role-differs register wire (rw (decode-register f k) at e) (λ z. cc)))
+
+pub register-decoded : (f : Fields) → role (decode f) ≡ register → decode f ≡ Register (f .width) (f .a) (f .value)
+register-decoded f e =
+    by-kind (f .kind)
+    (λ k. absurd (role-differs input register (rw (decode-input f k) at e) (λ z. cc)))
+    (λ k. absurd (role-differs wire register (rw (decode-constant f k) at e) (λ z. cc)))
+    (λ k. absurd (role-differs wire register (rw (decode-operator f k) at e) (λ z. cc)))
+    (λ k. absurd (role-differs wire register (rw (decode-multiplexer f k) at e) (λ z. cc)))
+    (λ k. decode-register f k)
 
 -- the variables that a wire uses stand two bytes apart
 pub use-number : (t : List ℕ) (at k : ℕ) → k + 1 < wireUses (decode (fieldsAt t at))

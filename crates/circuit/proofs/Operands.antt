@@ -1,21 +1,24 @@
--- Record v of a table that meets none of grounds 5 to 10, by what it reads as: its width is at most 32, and its
--- operands are variables of the table.
+-- Record v of a table that meets none of grounds 5 to 10, by what it reads as, and by its fields: its width is at most
+-- 32, and its operands are variables of the table.
 -- Assumes nothing.
 use mathlib.Core.Path.{_≡_, sym, _∙_, subst}
 use mathlib.Core.List.{List}
 use Prim.Native.Nat.{ℕ, _*_, _<_, _≤_}
 use lib.Dec.{T}
+use Rattle.net.specs.Net.{wire, register}
 use Rattle.net.specs.Tests.{member}
 use Rattle.net.proofs.Bools.{member-1, member-2, member-3}
-use Rattle.circuit.specs.declared.operator.Operator as operator
+use Rattle.circuit.specs.declared.record.Fields.{Fields}
 use Rattle.circuit.specs.declared.record.Record.{Record}
-use Rattle.circuit.specs.declared.record.Record.the-variants.{Operator, Multiplexer, Register}
+use Rattle.circuit.specs.declared.record.Record.the-variants.{Constant, Operator, Multiplexer, Register}
 use Rattle.circuit.specs.declared.refusal.Check.the-variants.{Passed}
-use Rattle.circuit.specs.Record.{width, uses}
+use Rattle.circuit.specs.Operator.{operatorOf}
+use Rattle.circuit.specs.Record.{width, uses, role}
 use Rattle.circuit.specs.Reading.{fieldsAt, decode}
 use Rattle.circuit.specs.Circuit.{circuit, recordOf}
 use Rattle.circuit.specs.Checks.{checkRecords}
-use Rattle.circuit.proofs.Decoding.{decode-width}
+use Rattle.circuit.proofs.Decoding.{decode-width, decode-constant, decode-operator}
+use Rattle.circuit.proofs.Decoding.{wire-multiplexer, register-decoded}
 use Rattle.circuit.proofs.Tables.{records-valid, circuit-record, record-uses}
 
 module _ (t : List ℕ) (n v : ℕ) (h : v < n) (r : Record) (e : r ≡ decode (fieldsAt t (v * 16))) where
@@ -28,18 +31,69 @@ module _ (t : List ℕ) (n v : ℕ) (h : v < n) (r : Record) (e : r ≡ decode (
         subst (λ (y : Record). width y ≤ 32) (sym e ∙ q)
         (rw (decode-width (fieldsAt t (v * 16))) (records-valid t n ok v h .width-most))
 
-    used : (x : Record) → r ≡ x → (u : ℕ) → T (member u (uses x)) → u < n
-    used x q u m = record-uses t n ok v h u (subst (λ (y : Record). T (member u (uses y))) (sym q ∙ e) m)
+-- ---- by the fields
 
-    pub operator-uses : (w : ℕ) (op : operator.Operator) (a b : ℕ) → r ≡ Operator w op a b → (a < n) × (b < n)
-    operator-uses w op a b q = (used _ q a (member-1 _ _), used _ q b (member-2 _ _ _))
+module _ (t : List ℕ) (n v : ℕ) where
+  abbrev here : Record
+  here = recordOf (circuit t n) v
 
-    pub multiplexer-uses : (w a b c : ℕ) → r ≡ Multiplexer w a b c → (a < n) × (b < n) × (c < n)
-    multiplexer-uses w a b c q = (
-      used _ q a (member-1 _ _),
-      used _ q b (member-2 _ _ _),
-      used _ q c (member-3 _ _ _ _),
-    )
+  abbrev f : Fields
+  f = fieldsAt t (v * 16)
 
-    pub register-uses : (w a k : ℕ) → r ≡ Register w a k → a < n
-    register-uses w a k q = used _ q a (member-1 _ _)
+  pub record OperatorHere : Type 0 where
+    pub is : here ≡ Operator (f .width) (operatorOf (f .code)) (f .a) (f .b)
+    pub width-most : f .width ≤ 32
+    pub a-below : f .a < n
+    pub b-below : f .b < n
+
+  pub record MultiplexerHere : Type 0 where
+    pub is : here ≡ Multiplexer (f .width) (f .a) (f .b) (f .c)
+    pub width-most : f .width ≤ 32
+    pub a-below : f .a < n
+    pub b-below : f .b < n
+    pub c-below : f .c < n
+
+  pub record RegisterHere : Type 0 where
+    pub is : here ≡ Register (f .width) (f .a) (f .value)
+    pub width-most : f .width ≤ 32
+    pub a-below : f .a < n
+
+  module _ (h : v < n) where
+    pub constant-here : f .kind ≡ 1 → here ≡ Constant (f .width) (f .value)
+    constant-here e = circuit-record t n v h ∙ decode-constant f e
+
+    module _ (ok : checkRecords t n ≡ Passed) where
+      used : (x : Record) → here ≡ x → (u : ℕ) → T (member u (uses x)) → u < n
+      used x q u m =
+          record-uses t n ok v h u (subst (λ (y : Record). T (member u (uses y))) (sym q ∙ circuit-record t n v h) m)
+
+      pub operator-here : f .kind ≡ 2 → OperatorHere
+      operator-here e =
+          let q = circuit-record t n v h ∙ decode-operator f e in
+          record {
+            is = q;
+            width-most = records-valid t n ok v h .width-most;
+            a-below = used _ q (f .a) (member-1 _ _);
+            b-below = used _ q (f .b) (member-2 _ _ _);
+          }
+
+      -- a wire that is neither a constant nor an operator
+      pub multiplexer-here : role here ≡ wire → (f .kind ≡ 1 → ⊥) → (f .kind ≡ 2 → ⊥) → MultiplexerHere
+      multiplexer-here e one two =
+          let q = circuit-record t n v h ∙ wire-multiplexer f (rw (circuit-record t n v h) at e) one two in
+          record {
+            is = q;
+            width-most = records-valid t n ok v h .width-most;
+            a-below = used _ q (f .a) (member-1 _ _);
+            b-below = used _ q (f .b) (member-2 _ _ _);
+            c-below = used _ q (f .c) (member-3 _ _ _ _);
+          }
+
+      pub register-here : role here ≡ register → RegisterHere
+      register-here e =
+          let q = circuit-record t n v h ∙ register-decoded f (rw (circuit-record t n v h) at e) in
+          record {
+            is = q;
+            width-most = records-valid t n ok v h .width-most;
+            a-below = used _ q (f .a) (member-1 _ _);
+          }

@@ -124,7 +124,7 @@ fn input_kind(code: u8, value: u32) -> InputKind
     kind
 }
 
-fn operator_of(code: u8) -> Operator
+pub fn operator_of(code: u8) -> Operator
     ensures { λ r. ⌜ r ≡ operatorOf code ⌝ }
 {
     let ReadOperator::Is(op) = read_operator(code) else {

@@ -4,6 +4,7 @@ ghost use Prim.Native.Nat.{_*_, _≤_, _<_};
 ghost use lib.ListN.{length, take};
 ghost use Rattle.net.specs.Net as net;
 ghost use Rattle.circuit.specs.declared.refusal.Check.the-variants.{Passed};
+ghost use Rattle.circuit.specs.Record.{role};
 ghost use Rattle.circuit.specs.Circuit.{circuit, recordOf, graph};
 ghost use Rattle.circuit.specs.Checks.{checkRecords};
 ghost use Rattle.circuit.specs.Machine as definition;
@@ -14,9 +15,16 @@ use circuit::operator::evaluate;
 use circuit::operator::multiplex;
 use circuit::operator::operator_code;
 use circuit::operator::remainder;
-use circuit::record::Record;
 use circuit::record::initial_value;
+use circuit::record::operator_of;
+use circuit::table::a_at;
+use circuit::table::b_at;
+use circuit::table::c_at;
+use circuit::table::code_at;
+use circuit::table::kind_at;
 use circuit::table::record_at;
+use circuit::table::value_at;
+use circuit::table::width_at;
 
 // What inputs and registers hold at power-on; wires hold 0 until they settle.
 fn write_initial(t: &[u8], n: usize, values: &mut [u32])
@@ -31,24 +39,39 @@ fn write_initial(t: &[u8], n: usize, values: &mut [u32])
     }
 }
 
-// What variable v's record gives.
-pub fn record_value(t: &[u8], n: usize, values: &[u32], v: usize) -> u32
+// What wire v's record gives. It is no input and no register, so what is no constant and no operator is a multiplexer.
+fn wire_value(t: &[u8], n: usize, values: &[u32], v: usize) -> u32
     requires { ⌜ (n * 16 ≤ length (now t)) × (n ≤ length (now values)) × (v < n) ⌝ }
     requires { ⌜ checkRecords (now t) n ≡ Passed ⌝ }
+    requires { ⌜ role (recordOf (circuit (now t) n) v) ≡ net.wire ⌝ }
     ensures { λ r. ⌜ r ≡ definition.values (circuit (now (t .entry)) n) (state (now (values .entry))) v ⌝ }
 {
-    let r = record_at(t, v);
-    match r {
-        Record::Input(_, _) => values[v],
-        Record::Constant(_, value) => value,
-        Record::Operator(w, op, a, b) => {
-            evaluate(operator_code(op), w, values[wide(a)], values[wide(b)])
+    let kind = kind_at(t, v);
+    match kind {
+        1 => value_at(t, v),
+        2 => {
+            let code = operator_code(operator_of(code_at(t, v)));
+            evaluate(code, width_at(t, v), values[a_at(t, v)], values[b_at(t, v)])
         }
-        Record::Multiplexer(w, a, b, c) => {
-            multiplex(w, values[wide(a)], values[wide(b)], values[wide(c)])
+        _ => {
+            multiplex(
+                width_at(t, v),
+                values[a_at(t, v)],
+                values[b_at(t, v)],
+                values[c_at(t, v)],
+            )
         }
-        Record::Register(w, a, _) => remainder(values[wide(a)], w),
     }
+}
+
+// What register v's record gives.
+pub fn register_value(t: &[u8], n: usize, values: &[u32], v: usize) -> u32
+    requires { ⌜ (n * 16 ≤ length (now t)) × (n ≤ length (now values)) × (v < n) ⌝ }
+    requires { ⌜ checkRecords (now t) n ≡ Passed ⌝ }
+    requires { ⌜ role (recordOf (circuit (now t) n) v) ≡ net.register ⌝ }
+    ensures { λ r. ⌜ r ≡ definition.values (circuit (now (t .entry)) n) (state (now (values .entry))) v ⌝ }
+{
+    remainder(values[a_at(t, v)], width_at(t, v))
 }
 
 // The wires take their values, one after the other along their order.
@@ -63,7 +86,7 @@ pub fn settle(t: &[u8], n: usize, scratch: &[u16], wires: usize, values: &mut [u
     let mut i: usize = 0;
     while i < wires {
         let v = wide(scratch[i]);
-        let x = record_value(t, n, values, v);
+        let x = wire_value(t, n, values, v);
         values[v] = x;
         i += 1;
     }

@@ -12,7 +12,7 @@ ghost use Rattle.machine.specs.Staging.{StagedTo};
 ghost use Rattle.machine.specs.Ready.{Ready};
 use crate::halves::load;
 use crate::halves::store;
-use crate::pass::record_value;
+use crate::pass::register_value;
 use crate::pass::settle;
 use circuit::number::wide;
 
@@ -27,7 +27,7 @@ fn stage(t: &[u8], n: usize, scratch: &mut [u16], wires: usize, registers: usize
     let mut j: usize = 0;
     while j < registers {
         let v = wide(scratch[wires + j]);
-        let x = record_value(t, n, values, v);
+        let x = register_value(t, n, values, v);
         store(scratch, n + n + j * 2, x);
         j += 1;
     }

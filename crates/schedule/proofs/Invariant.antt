@@ -38,6 +38,7 @@ start c n cell state z =
       after = λ i k l. absurd (not-suc-le-zero l);
       done = λ i k l l′. absurd (omega arith);
       chain = λ i l l′. absurd (omega arith);
+      waiting = λ i l l′. absurd (omega arith);
       tried = λ v l. absurd (not-suc-le-zero l);
     }
 
@@ -51,7 +52,7 @@ module _ {c : Circuit} {n : ℕ} (len : length c ≡ n) (inside : Inside c) {cel
   pub push : (cell′ state′ : ℕ → ℕ) (u top′ : ℕ) → top ≡ top′ + 1 → u < n → 0 < last c u → state u ≡ 0
       → cell′ top′ ≡ u → ((i : ℕ) → i < n → (i ≡ top′ → ⊥) → cell′ i ≡ cell i)
       → state′ u ≡ 1 → ((v : ℕ) → (v ≡ u → ⊥) → state′ v ≡ state v)
-      → (top < n → Uses (graph c) (cell top) u)
+      → (top < n → (state (cell top) < last c (cell top)) × Uses (graph c) (cell top) u)
       → Invariant c n cell′ state′ root finished top′
   push cell′ state′ u top′ et lu wu zu here cells one states by =
       let place : ℕ → ℕ = inv .place in
@@ -113,8 +114,14 @@ module _ {c : Circuit} {n : ℕ} (len : length c ≡ n) (inside : Inside c) {cel
         chain = λ i l l′.
             let e : cell′ (i + 1) ≡ cell (i + 1) = cells (i + 1) l′ (λ z. omega arith) in
             by-same i top′
-            (λ q. rw (e, ap cell′ q ∙ here, ap (λ (x : ℕ). x + 1) q ∙ sym et) (by (omega arith)))
+            (λ q. rw (e, ap cell′ q ∙ here, ap (λ (x : ℕ). x + 1) q ∙ sym et) (by (omega arith) .1))
             (λ q. rw (e, cells i (omega arith) q) (inv .chain i (omega arith) l′));
+        waiting = λ i l l′.
+            let h = inv .stacked-at i (omega arith) l′ in
+            let ne : cell i ≡ u → ⊥ = not-u (cell i) (state (cell i)) refl (h .1) in
+            let w : state (cell i) < last c (cell i) =
+            by-same i top (λ q. rw q (by (omega arith) .0)) (λ q. inv .waiting i (omega arith) l′) in
+            rw (cells i l′ (λ z. omega arith), states (cell i) ne) w;
         tried = λ v l w. by-same v u
             (λ q. omega (arith, ap state′ q))
             (λ q. rw (states v q) (inv .tried v l w));
@@ -172,6 +179,10 @@ module _ {c : Circuit} {n : ℕ} (len : length c ≡ n) (inside : Inside c) {cel
             (λ q. inv .done i k l l′ (rw (states (cell i) q) at hk) hw) in
             rw (states (used c (cell i) k) (not-top (used c (cell i) k) r)) r;
         chain = inv .chain;
+        waiting = λ i l l′.
+            let h = inv .stacked-at i (omega arith) l′ in
+            let ne : cell i ≡ cell top → ⊥ = λ z. omega (arith, h .3, at-top .3, ap (inv .place) z) in
+            rw (states (cell i) ne) (inv .waiting i l l′);
         tried = λ v l w. by-same v (cell top)
             (λ q. omega (arith, ap state′ q))
             (λ q. rw (states v q) (inv .tried v l w));
@@ -253,6 +264,10 @@ module _ {c : Circuit} {n : ℕ} (len : length c ≡ n) (inside : Inside c) {cel
         chain = λ i l l′.
             rw (cells (i + 1) l′ (λ z. omega arith), cells i (omega arith) (λ z. omega arith))
             (inv .chain i (omega arith) l′);
+        waiting = λ i l l′.
+            let h = inv .stacked-at i (omega arith) l′ in
+            let ne : cell i ≡ cell top → ⊥ = above (cell i) i (h .3) (omega arith) in
+            rw (cells i l′ (λ z. omega arith), states (cell i) ne) (inv .waiting i (omega arith) l′);
         tried = λ v l w. by-same v (cell top)
             (λ q. omega (arith, ap state′ q))
             (λ q. rw (states v q) (inv .tried v l w));
@@ -275,6 +290,7 @@ module _ {c : Circuit} {n : ℕ} (len : length c ≡ n) (inside : Inside c) {cel
         after = inv .after;
         done = inv .done;
         chain = inv .chain;
+        waiting = inv .waiting;
         tried = λ v l′ w. by-same v root
             (λ q. omega (arith, h (omega (arith, ap (last c) q)), ap state q))
             (λ q. inv .tried v (omega arith) w);
@@ -306,6 +322,7 @@ module _ {c : Circuit} {n : ℕ} (len : length c ≡ n) (inside : Inside c) {cel
             let e : cell′ i ≡ cell i = cells i l′ in
             rw e (inv .done i k l l′ (rw e at hk) (rw e at hw));
         chain = λ i l l′. rw (cells (i + 1) l′, cells i (omega arith)) (inv .chain i l l′);
+        waiting = λ i l l′. rw (cells i l′) (inv .waiting i l l′);
         tried = inv .tried;
       }
 

@@ -7,7 +7,7 @@ use Prim.Native.Nat.{ℕ, _+_, _-_, _*_, _≤_, _<_}
 use native.Mathlib.Omega.{arith}
 use lib.ListN.{length, getD, take, drop, replicate, length-append, length-replicate, List·getD-append}
 use lib.Seq.{ext-getD, getD-take, length-take-le, take-at, drop-at, getD-append-add}
-use Rattle.net.specs.Net.{register}
+use Rattle.net.specs.Net.{wire, register}
 use Rattle.circuit.specs.declared.refusal.Check.the-variants.{Passed}
 use Rattle.circuit.specs.Record.{role}
 use Rattle.circuit.specs.Circuit.{Circuit, circuit, recordOf}
@@ -80,6 +80,13 @@ module _ (t : List ℕ) (n : ℕ) (scratch : List ℕ) where
         circuit-length t n,
         same,
       )
+
+  -- what stands in the scratch at place i of the order is a wire
+  pub ordered-wire : (wires i v : ℕ) → wires ≤ length scratch → Ordered (circuit t n) (take wires scratch) → i < wires
+      → v ≡ getD scratch i 0 → role (recordOf (circuit t n) v) ≡ wire
+  ordered-wire wires i v few ordered h e =
+      subst (λ (u : ℕ). role (recordOf (circuit t n) u) ≡ wire) (wire-at wires i h ∙ sym e)
+      (ordered .wires i (omega (arith, length-take-le wires scratch few)) .1)
 
   -- what stands in the scratch at register j's place is that register
   pub listed-register : (first j v : ℕ) → Listed (circuit t n) scratch first → j < length (registerList (circuit t n))

@@ -13,6 +13,7 @@ use Rattle.circuit.proofs.Tables.{Inside, circuit-length, circuit-inside}
 use Rattle.schedule.specs.declared.walk.Walk.{Walk}
 use Rattle.schedule.specs.Walk.{Table, last, used, cellOf, stateOf, Walking, Progress}
 use Rattle.schedule.specs.Walk.{IsNoneLeft, IsDone, IsUnvisited, IsStacked, AllFinished, StackCloses}
+use Rattle.schedule.proofs.Cases.{by-same}
 use Rattle.schedule.proofs.Sums.{sum-rises}
 use Rattle.schedule.proofs.Uses.{last-most, used-uses, used-below}
 use Rattle.schedule.proofs.Invariant as invariant
@@ -47,7 +48,9 @@ module _ {t : List ℕ} {n : ℕ} (table : Table t n) (s : List ℕ) (w : Walk) 
   room = invariant.room (circuit-length t n) inside walking
 
   pub pushed : (u : ℕ) (exit : List ℕ) (w′ : Walk) → u < n → 0 < last (circuit t n) u → stateOf n s u ≡ 0
-      → (w .top < n → Uses (graph (circuit t n)) (cellOf s (w .top)) u)
+      → (w .top < n
+      → (stateOf n s (cellOf s (w .top)) < last (circuit t n) (cellOf s (w .top)))
+      × Uses (graph (circuit t n)) (cellOf s (w .top)) u)
       → (w′ .root ≡ w .root) × (w′ .finished ≡ w .finished) × (w′ .top ≡ w .top - 1)
       → exit ≡ set (set s (n + u) 1) (w .top - 1) u → Progress t n s w exit w′
   pushed u exit w′ lu wu zu by e q =
@@ -240,13 +243,35 @@ module _ {t : List ℕ} {n : ℕ} (table : Table t n) {s : List ℕ} {w : Walk} 
         }
 
     pub use-unvisited : 0 < last (circuit t n) u → stateOf n s u ≡ 0 → IsUnvisited t n s w u
-    use-unvisited p z = record { below = use-below; wire = p; unvisited = z; uses = top-uses }
+    use-unvisited p z =
+        record {
+          below = use-below;
+          wire = p;
+          unvisited = z;
+          more = rw (sym (read .is)) (omega (arith, read .state-is, read .end-is, read .within));
+          uses = top-uses;
+        }
 
-    pub use-stacked : Walking t n s w → (stateOf n s u ≡ 0 → ⊥) → (stateOf n s u ≡ 5 → ⊥) → IsStacked t n s w u
-    use-stacked walking z f =
+    -- a wire on the stack has uses left: what has none is finished, or no wire
+    pub use-full : Walking t n s w → last (circuit t n) u ≤ stateOf n s u → 0 < last (circuit t n) u
+        → stateOf n s u ≡ 5
+    use-full walking full wire =
+        by-same (stateOf n s u) 5 (λ q. q)
+        (λ q.
+        let h = walking .stacked-is u use-below (omega arith) (omega (arith, walking .state-most u use-below)) in
+        by-same (walking .place u) (w .top)
+        (λ z.
+        let same : u ≡ v = sym (h .2) ∙ ap (cellOf s) z ∙ sym (read .is) in
+        absurd (omega (arith, ap (stateOf n s) same, ap (last (circuit t n)) same, read)))
+        (λ z.
+        let less = rw (h .2) at (walking .waiting (walking .place u) (omega arith) (h .1)) in
+        absurd (omega arith)))
+
+    pub use-stacked : (stateOf n s u ≡ 0 → ⊥) → stateOf n s u < last (circuit t n) u → IsStacked t n s w u
+    use-stacked z f =
         record {
           below = use-below;
           visited = omega arith;
-          unfinished = omega (arith, walking .state-most u use-below);
+          unfinished = omega (arith, last-most (circuit t n) u);
           uses = top-uses;
         }

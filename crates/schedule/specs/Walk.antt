@@ -67,6 +67,7 @@ pub record Invariant (c : Circuit) (n : ℕ) (cell state : ℕ → ℕ) (root fi
   pub done : (i k : ℕ) → top ≤ i → i < n → k + 1 < state (cell i) → 0 < last c (used c (cell i) k)
       → state (used c (cell i) k) ≡ 5
   pub chain : (i : ℕ) → top ≤ i → i + 1 < n → Uses (graph c) (cell (i + 1)) (cell i)
+  pub waiting : (i : ℕ) → top < i → i < n → state (cell i) < last c (cell i)
   pub tried : (v : ℕ) → v < root → 0 < last c v → 0 < state v
 
 -- ---- the walk in the scratch
@@ -105,6 +106,7 @@ pub record IsUnvisited (t : List ℕ) (n : ℕ) (s : List ℕ) (w : Walk) (u : �
   pub below : u < n
   pub wire : 0 < last (circuit t n) u
   pub unvisited : stateOf n s u ≡ 0
+  pub more : stateOf n s (cellOf s (w .top)) < last (circuit t n) (cellOf s (w .top))
   pub uses : Uses (graph (circuit t n)) (cellOf s (w .top)) u
 
 -- u is the top's next use, a wire that is on the stack

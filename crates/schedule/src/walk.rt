@@ -122,7 +122,7 @@ fn visit_root(t: &[u8], n: usize, s: &mut [u16], w: Walk) -> Walk
     push(s, n, v, w)
 }
 
-// Looks at the next use of the top.
+// Looks at the next use of the top. One test finds it done, as a wire that is on the stack has uses left.
 fn next_use(t: &[u8], n: usize, s: &[u16], w: Walk) -> NextUse
     requires { ⌜ Table (now t) n ⌝ }
     requires { ⌜ n + n ≤ length (now s) ⌝ }
@@ -137,11 +137,8 @@ fn next_use(t: &[u8], n: usize, s: &[u16], w: Walk) -> NextUse
         return NextUse::NoneLeft(v);
     }
     let u = used_at(t, n, v, state - 1);
-    if last_state(t, n, u) == 0 {
-        return NextUse::Done(v);
-    }
-    let other = s[n + u];
-    if other == 5 {
+    let other = wide(s[n + u]);
+    if last_state(t, n, u) <= other {
         return NextUse::Done(v);
     }
     if other == 0 {

@@ -7,7 +7,7 @@ use native.Mathlib.Omega.{arith}
 use borrow.Author.Needs.{needs}
 use lib.ListN.{take}
 use Rattle.certificate.proofs.Cells.{written-length}
-use Rattle.schedule.proofs.Standing.{wire-below}
+use Rattle.schedule.proofs.Standing.{wire-below, ordered-wire}
 use Rattle.certificate.proofs.Settling.{Passed-wires, none-passed, one-passed, all-passed}
 use Rattle.certificate.proofs.pass.settle.Statement.{statement}
 use Rattle.certificate.proofs.pass.settle.Tie as tie
@@ -35,12 +35,16 @@ shared-slice-read-wide c = omega arith
 wide-requires : tie.Need-wide-requires Inv-loop μ-loop
 wide-requires c κs = search needs
 
-rule-fact-requires : tie.Need-rule-fact-requires Inv-loop μ-loop
-rule-fact-requires c κs =
+wire-fact-requires : tie.Need-wire-fact-requires Inv-loop μ-loop
+wire-fact-requires c κs =
     let x = c .before .before .before .before .before .before .before .before .args in
     let p = c .before .before .before .before .before .before .before .before .pre in
     let w =
     wire-below (x .t .now) (x .n) (x .scratch .now) (x .wires) (c .before .before .before .before .loop .i) (c .before .wide .result)
+    (p .0 .2) (p .1 .1 .0) (c .before .before .before .loop-test .taken) (c .before .wide .ensures .0) in
+    let is-wire =
+    ordered-wire (x .t .now) (x .n) (x .scratch .now) (x .wires) (c .before .before .before .before .loop .i)
+    (c .before .wide .result)
     (p .0 .2) (p .1 .1 .0) (c .before .before .before .loop-test .taken) (c .before .wide .ensures .0) in (
       (
         p .0 .0,
@@ -51,7 +55,7 @@ rule-fact-requires c κs =
         ),
         w,
       ),
-      p .1 .0,
+      (p .1 .0, is-wire),
     )
 
 store-requires : tie.Need-store-requires Inv-loop μ-loop
@@ -83,7 +87,7 @@ loop-again c =
     let cells = c .before .before .before .before .before .before .before .before .before .loop .cells in
     let i = c .before .before .before .before .before .before .before .before .before .loop .i in
     let v = c .before .before .before .before .before .before .wide .result in
-    let f = c .before .before .before .before .rule-fact .result in (
+    let f = c .before .before .before .before .wire-fact .result in (
       omega arith,
       subst (λ (l : List ℕ). Passed-wires (x .t .now) (x .n) (take (x .wires) (x .scratch .now)) (x .cells .now) l
           (i + 1))
@@ -92,7 +96,7 @@ loop-again c =
           (c .before .before .before .before .before .before .before .before .before .loop .inv .1) v f
           (c .before .before .before .before .before .before .before .before .loop-test .taken)
           (c .before .before .before .before .before .before .wide .ensures .0)
-          (c .before .before .before .before .rule-fact .ensures) (c .before .before .store .ensures .1)),
+          (c .before .before .before .before .wire-fact .ensures) (c .before .before .store .ensures .1)),
     )
 
 same-length : tie.Need-same-length Inv-loop μ-loop
@@ -119,7 +123,7 @@ settle-spec =
     mul-wide
     shared-slice-read-wide
     wide-requires
-    rule-fact-requires
+    wire-fact-requires
     store-requires
     add-i
     loop-less

@@ -5,10 +5,11 @@ use mathlib.Core.List.{List}
 use Prim.Native.Nat.{ℕ, _+_, _-_, _≤_}
 use native.Mathlib.Omega.{arith}
 use borrow.Author.Needs.{needs}
-use lib.ListN.{length}
+use lib.ListN.{length, getD}
 use Rattle.circuit.specs.Circuit.{circuit}
+use Rattle.circuit.proofs.Decoding.{register-decoded}
 use Rattle.circuit.proofs.Tables.{circuit-length, circuit-record}
-use Rattle.fact.specs.Fact.{factByte}
+use Rattle.fact.specs.Fact.{factByte, factOf}
 use Rattle.fact.specs.Rule.{rule}
 use Rattle.certificate.specs.Cells.{storeOf}
 use Rattle.certificate.proofs.Cells.{written-length}
@@ -39,8 +40,8 @@ shared-slice-read-wide c = omega arith
 wide-requires : tie.Need-wide-requires Inv-loop μ-loop
 wide-requires c κs = search needs
 
-record-at-requires : tie.Need-record-at-requires Inv-loop μ-loop
-record-at-requires c κs =
+value-at-requires : tie.Need-value-at-requires Inv-loop μ-loop
+value-at-requires c κs =
     let x = c .before .before .before .before .before .before .before .args in
     let p = c .before .before .before .before .before .before .before .pre in
     let j = c .before .before .before .loop .j in
@@ -97,11 +98,14 @@ loop-again c =
     let s = storeOf (x .cells .now) (x .n) in
     let v = c .before .before .before .before .before .before .before .wide .result in
     let f = c .before .before .before .before .staged-fact .result in
+    let at = circuit-record (x .t .now) (x .n) v (here .1) in
+    let byte = getD (x .scratch .now) (x .n + j) 0 in
     let is : f ≡ rule C s v =
-    staged-rule C s v _ (c .before .before .before .before .before .before .record-at .result) f (here .2)
-    (c .before .before .before .before .before .before .record-at .ensures ∙ sym
-    (circuit-record (x .t .now) (x .n) v (here .1)))
-    (p .1 .1 .1 .1 .0 j (c .before .before .before .before .before .before .before .before .before .loop-test .taken) ∙ ap (λ (u : ℕ). factByte (rule C s u)) (sym (here .0))) (c .before .before .before .before .staged-fact .ensures) in (
+    staged-rule C s v byte _ _ _ f (at ∙ register-decoded _ (rw at at (here .2)))
+    (p .1 .1 .1 .1 .0 j (c .before .before .before .before .before .before .before .before .before .loop-test .taken)
+    ∙ ap (λ (u : ℕ). factByte (rule C s u)) (sym (here .0)))
+    (c .before .before .before .before .staged-fact .ensures
+    ∙ ap (factOf byte) (c .before .before .before .before .before .before .value-at .ensures)) in (
       omega arith,
       subst (λ (l : List ℕ). Committed C (x .n) (x .cells .now) l (j + 1)) (sym (c .before .before .store .ensures .0))
           (one-committed C (x .n) (circuit-length (x .t .now) (x .n)) (x .cells .now)
@@ -134,7 +138,7 @@ commit-spec =
     mul-wide
     shared-slice-read-wide
     wide-requires
-    record-at-requires
+    value-at-requires
     add-staged-fact
     mul-staged-fact
     shared-slice-read-staged-fact

@@ -46,8 +46,8 @@ slice-read-wide c = omega (arith, c .before .before .loop .inv .1 .kept .long)
 wide-requires : tie.Need-wide-requires Inv-loop μ-loop
 wide-requires c κs = search needs
 
-rule-fact-requires : tie.Need-rule-fact-requires Inv-loop μ-loop
-rule-fact-requires c κs =
+register-fact-requires : tie.Need-register-fact-requires Inv-loop μ-loop
+register-fact-requires c κs =
     let x = c .before .before .before .before .before .before .before .args in
     let p = c .before .before .before .before .before .before .before .pre in
     let j = c .before .before .before .loop .j in
@@ -57,7 +57,7 @@ rule-fact-requires c κs =
     (c .wide .result)
     (listed-kept (circuit (x .t .now) (x .n)) (inv .1 .kept) (x .first) (omega arith) (p .1 .1 .1 .1))
     (omega (arith, c .before .before .loop-test .taken)) (c .wide .ensures .0) in
-    ((p .0 .0, p .0 .1, here .1), p .1 .1 .1 .0)
+    ((p .0 .0, p .0 .1, here .1), (p .1 .1 .1 .0, here .2))
 
 byte-requires : tie.Need-byte-requires Inv-loop μ-loop
 byte-requires c κs = search needs
@@ -114,8 +114,8 @@ loop-again c =
     (omega (arith, c .before .before .before .before .before .before .before .before .loop-test .taken)) (c .before .before .before .before .before .before .wide .ensures .0) in
     let C = circuit (x .t .now) (x .n) in
     let s = storeOf (x .cells .now) (x .n) in
-    let fact : c .before .before .before .before .before .rule-fact .result ≡ rule C s
-    (getD (registerList C) j 0) = c .before .before .before .before .before .rule-fact .ensures ∙ ap
+    let fact : c .before .before .before .before .before .register-fact .result ≡ rule C s
+    (getD (registerList C) j 0) = c .before .before .before .before .before .register-fact .ensures ∙ ap
     (rule C s) (here .0) in
     let old : c .before .before .load .result ≡ s (getD (registerList C) j 0) =
     c .before .before .load .ensures ∙ store-load (x .cells .now) (x .n)
@@ -159,7 +159,7 @@ stage-spec =
     mul-wide
     slice-read-wide
     wide-requires
-    rule-fact-requires
+    register-fact-requires
     byte-requires
     wide16-requires
     add-scratch

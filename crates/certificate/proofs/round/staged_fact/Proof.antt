@@ -7,14 +7,11 @@ use borrow.Author.Needs.{needs}
 use Rattle.certificate.proofs.round.staged_fact.Statement.{statement}
 use Rattle.certificate.proofs.round.staged_fact.Tie as tie
 
-initial-value-requires : tie.Need-initial-value-requires
-initial-value-requires c κs = search needs
-
 returns : tie.Need-returns
 returns c = search needs
 
 returns-2 : tie.Need-returns-2
-returns-2 c = rw (c .before .match .keys2, c .initial-value .ensures)
+returns-2 c = rw (c .match .keys2)
 
 returns-3 : tie.Need-returns-3
 returns-3 c = search needs
@@ -26,4 +23,4 @@ returns-4 c =
 
 pub staged-fact-spec : {M : Type 1} → statement M
 staged-fact-spec =
-    tie.close (tie.spec initial-value-requires returns returns-2 returns-3 returns-4)
+    tie.close (tie.spec returns returns-2 returns-3 returns-4)

@@ -4,7 +4,7 @@ use Prim.Native.Nat.{_-_, _≤_}
 use native.Mathlib.Omega.{arith}
 use lib.ListN.{take}
 use Rattle.circuit.specs.Circuit.{circuit}
-use Rattle.schedule.proofs.Standing.{wire-below}
+use Rattle.schedule.proofs.Standing.{wire-below, ordered-wire}
 use Rattle.machine.proofs.Settling.{Passed-wires, none-passed, one-passed, all-passed}
 use borrow.Author.Needs.{needs}
 use Rattle.machine.proofs.pass.settle.Statement.{statement}
@@ -29,15 +29,19 @@ shared-slice-read-wide c = omega arith
 wide-requires : tie.Need-wide-requires Inv-loop μ-loop
 wide-requires c κs = search needs
 
-record-value-requires : tie.Need-record-value-requires Inv-loop μ-loop
-record-value-requires c κs =
+wire-value-requires : tie.Need-wire-value-requires Inv-loop μ-loop
+wire-value-requires c κs =
     let x = c .before .before .before .before .before .before .before .before .args in
     let p = c .before .before .before .before .before .before .before .before .pre in
     let below =
     wire-below (x .t .now) (x .n) (x .scratch .now) (x .wires) (c .before .before .before .before .loop .i)
     (c .before .wide .result) (p .0 .2) (p .1 .1)
     (c .before .before .before .loop-test .taken) (c .before .wide .ensures .0) in
-    ((p .0 .0, omega (arith, c .before .before .before .before .loop .inv .1 .kept .long), below), p .1 .0)
+    let is-wire =
+    ordered-wire (x .t .now) (x .n) (x .scratch .now) (x .wires) (c .before .before .before .before .loop .i)
+    (c .before .wide .result) (p .0 .2) (p .1 .1)
+    (c .before .before .before .loop-test .taken) (c .before .wide .ensures .0) in
+    ((p .0 .0, omega (arith, c .before .before .before .before .loop .inv .1 .kept .long), below), (p .1 .0, is-wire))
 
 mul-values : tie.Need-mul-values Inv-loop μ-loop
 mul-values c = omega (arith, c .before .before .wide .ensures .1)
@@ -67,9 +71,9 @@ loop-again c =
           (c .before .before .before .before .before .loop .values)
           (c .before .before .before .before .before .loop .i)
           (c .before .before .before .before .before .loop .inv .1) (c .before .before .wide .result)
-          (c .record-value .result) (c .before .before .before .before .loop-test .taken)
+          (c .wire-value .result) (c .before .before .before .before .loop-test .taken)
           (c .before .before .wide .ensures .0)
-          (p .0 .1) (c .record-value .ensures),
+          (p .0 .1) (c .wire-value .ensures),
     )
 
 same-length : tie.Need-same-length Inv-loop μ-loop
@@ -93,7 +97,7 @@ settle-spec =
     mul-wide
     shared-slice-read-wide
     wide-requires
-    record-value-requires
+    wire-value-requires
     mul-values
     slice-write-values
     add-i

@@ -42,8 +42,8 @@ slice-read-wide c =
 wide-requires : tie.Need-wide-requires Inv-loop μ-loop
 wide-requires c κs = search needs
 
-record-value-requires : tie.Need-record-value-requires Inv-loop μ-loop
-record-value-requires c κs =
+register-value-requires : tie.Need-register-value-requires Inv-loop μ-loop
+register-value-requires c κs =
     let x = c .before .before .before .before .before .before .before .args in
     let r = c .before .before .before .before .before .before .before .pre .0 in
     let here =
@@ -51,7 +51,7 @@ record-value-requires c κs =
     (c .before .before .before .loop .j) (c .wide .result)
     (ready-kept r (c .before .before .before .loop .inv .1 .kept) .listed)
     (omega (arith, r .all-registers, c .before .before .loop-test .taken)) (c .wide .ensures .0) in
-    ((r .table, c .before .before .before .before .before .before .before .pre .1, here .1), r .valid)
+    ((r .table, c .before .before .before .before .before .before .before .pre .1, here .1), (r .valid, here .2))
 
 add-store : tie.Need-add-store Inv-loop μ-loop
 add-store c =
@@ -100,7 +100,7 @@ loop-again c =
           (c .before .before .before .before .before .before .before .before .loop .j)
           (c .before .before .before .before .before .before .before .before .loop .inv .1)
           (omega (arith, r .fits)) (c .before .before .store .ensures .0)
-          (c .before .before .store .ensures .1 ∙ c .before .before .before .before .record-value .ensures ∙ ap
+          (c .before .before .store .ensures .1 ∙ c .before .before .before .before .register-value .ensures ∙ ap
           (machine.values C (state (x .values .now))) (here .0)),
     )
 
@@ -128,7 +128,7 @@ stage-spec =
     mul-wide
     slice-read-wide
     wide-requires
-    record-value-requires
+    register-value-requires
     add-store
     mul-store
     add-store-2

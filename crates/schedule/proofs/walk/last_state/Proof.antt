@@ -2,12 +2,17 @@
 -- Assumes nothing.
 use borrow.Author.Needs.{needs}
 use mathlib.Core.Path.{sym, _∙_}
+use Rattle.circuit.proofs.Tables.{records-valid}
 use Rattle.schedule.proofs.Uses.{last-decode}
 use Rattle.schedule.proofs.walk.last_state.Statement.{statement}
 use Rattle.schedule.proofs.walk.last_state.Tie as tie
 
 wire-uses-requires : tie.Need-wire-uses-requires
-wire-uses-requires c κs = search needs
+wire-uses-requires c κs =
+    let a = c .before in (
+      search needs,
+      records-valid (a .args .t .now) (a .args .n) (a .pre .0 .checked) (a .args .v) (a .pre .1) .kind,
+    )
 
 wide-requires : tie.Need-wide-requires
 wide-requires c κs = search needs

@@ -1,11 +1,9 @@
 -- The top is read, then its next use: it is known to be a record before it is looked at.
 -- Assumes nothing.
 use borrow.Author.Needs.{needs}
-use mathlib.Core.Path.{_≡_, sym, _∙_}
+use mathlib.Core.Path.{sym, _∙_}
 use Prim.Native.Nat.{_<_}
 use native.Mathlib.Omega.{arith}
-use Rattle.circuit.specs.Circuit.{circuit}
-use Rattle.schedule.specs.Walk.{last}
 use Rattle.schedule.proofs.Steps as steps
 use Rattle.schedule.proofs.walk.next_use.Statement.{statement}
 use Rattle.schedule.proofs.walk.next_use.Tie as tie
@@ -70,52 +68,50 @@ used-at-requires c κs =
     let a = c .before .before .before .before .before .before .before .before in
     (a .pre .0, (r .below, omega (arith, c .if1 .left)))
 
+add-wide-2 : tie.Need-add-wide-2
+add-wide-2 c = omega (arith, below-use c)
+
+mul-wide-3 : tie.Need-mul-wide-3
+mul-wide-3 c = omega (arith, below-use c)
+
+shared-slice-read-wide-3 : tie.Need-shared-slice-read-wide-3
+shared-slice-read-wide-3 c = omega (arith, below-use (c .before))
+
+wide-requires-3 : tie.Need-wide-requires-3
+wide-requires-3 c κs = search needs
+
 last-state-requires-2 : tie.Need-last-state-requires-2
-last-state-requires-2 c κs =
-    (c .before .before .before .before .before .before .before .before .before .pre .0, below-use c)
+last-state-requires-2 c κs = (
+  c .before .before .before .before .before .before .before .before .before .before .before .pre .0,
+  below-use (c .before .before),
+)
 
 returns-2 : tie.Need-returns-2
 returns-2 c =
-    let u = c .before .before in
-    let k = u .before .before in
-    let a = k .before .before .before .before .before .before .before in
-    let z : last (circuit (a .args .t .now) (a .args .n)) (u .used-at .result) ≡ 0 =
-    sym (c .before .last-state2 .ensures) ∙ c .if2 .taken in
-    steps.use-done (a .pre .0) (read k) (u .before .if1 .left) (u .used-at .ensures) (λ h. absurd (omega arith))
-
-add-other : tie.Need-add-other
-add-other c = omega (arith, below-use (c .before .before))
-
-mul-other : tie.Need-mul-other
-mul-other c = omega (arith, below-use (c .before .before))
-
-shared-slice-read-other : tie.Need-shared-slice-read-other
-shared-slice-read-other c = omega (arith, below-use (c .before .before .before))
-
-returns-3 : tie.Need-returns-3
-returns-3 c =
     let u = c .before .before .before .before in
     let k = u .before .before in
     let a = k .before .before .before .before .before .before .before in
-    steps.use-done (a .pre .0) (read k) (u .before .if1 .left) (u .used-at .ensures) (λ h. c .if3 .taken)
+    steps.use-done (a .pre .0) (read k) (u .before .if1 .left) (u .used-at .ensures)
+    (steps.use-full (a .pre .0) (read k) (u .before .if1 .left) (u .used-at .ensures) (a .pre .1 .1 .0)
+    (omega (arith, c .if2 .taken, c .before .last-state2 .ensures, c .before .before .wide3 .ensures .0)))
 
-returns-4 : tie.Need-returns-4
-returns-4 c =
-    let k2 = c .before .before .before .before in
-    let u = k2 .before in
-    let k = u .before .before in
-    let a = k .before .before .before .before .before .before .before in
-    let wire : 0 < last (circuit (a .args .t .now) (a .args .n)) (u .used-at .result) =
-    omega (arith, k2 .last-state2 .ensures, c .before .before .before .if2 .left) in
-    steps.use-unvisited (a .pre .0) (read k) (u .before .if1 .left) (u .used-at .ensures) wire (c .if4 .taken)
-
-returns-5 : tie.Need-returns-5
-returns-5 c =
+returns-3 : tie.Need-returns-3
+returns-3 c =
     let u = c .before .before .before .before .before in
     let k = u .before .before in
     let a = k .before .before .before .before .before .before .before in
-    steps.use-stacked (a .pre .0) (read k) (u .before .if1 .left) (u .used-at .ensures)
-    (a .pre .1 .1 .0) (c .if4 .left) (c .before .if3 .left)
+    let other = c .before .before .before .wide3 .ensures .0 in
+    steps.use-unvisited (a .pre .0) (read k) (u .before .if1 .left) (u .used-at .ensures)
+    (omega (arith, c .before .if2 .left, c .before .before .last-state2 .ensures)) (sym other ∙ c .if3 .taken)
+
+returns-4 : tie.Need-returns-4
+returns-4 c =
+    let u = c .before .before .before .before .before in
+    let k = u .before .before in
+    let a = k .before .before .before .before .before .before .before in
+    let other = c .before .before .before .wide3 .ensures .0 in
+    steps.use-stacked (a .pre .0) (read k) (u .before .if1 .left) (u .used-at .ensures) (λ z. c .if3 .left (other ∙ z))
+    (omega (arith, c .before .if2 .left, c .before .before .last-state2 .ensures, other))
 
 pub next-use-spec : {M : Type 1} → statement M
 next-use-spec =
@@ -132,11 +128,11 @@ next-use-spec =
     returns
     sub-used-at
     used-at-requires
+    add-wide-2
+    mul-wide-3
+    shared-slice-read-wide-3
+    wide-requires-3
     last-state-requires-2
     returns-2
-    add-other
-    mul-other
-    shared-slice-read-other
     returns-3
-    returns-4
-    returns-5)
+    returns-4)

@@ -98,7 +98,7 @@ returns-3 c =
     let f = unvisited (p .before .before .before) in
     let a = p .before .before .before .before .before .before .before .before .before in
     steps.pushed (a .pre .0) (a .args .s .now) (a .args .w) (a .pre .1 .0) (a .pre .1 .1 .0) _ _ _
-    (f .below) (f .wire) (f .unvisited) (λ h. f .uses) (p .push .ensures .0) (p .push .ensures .1)
+    (f .below) (f .wire) (f .unvisited) (λ h. (f .more, f .uses)) (p .push .ensures .0) (p .push .ensures .1)
 
 same-length-4 : tie.Need-same-length-4
 same-length-4 c = search needs
