@@ -1,37 +1,30 @@
 -- The rounds on the certificate's bytes are the rounds of the definition: the store after each, and when they stop.
 -- Assumes nothing.
-use mathlib.Core.Path.{_≡_, refl, sym, ap, _∙_, subst}
-use mathlib.Core.Bool.{Bool, true, false, not}
-use mathlib.Core.List.{List}
-use Prim.Native.Nat.{ℕ, zero, suc, _+_, _*_, _<_, _≤_}
-use native.Mathlib.Nat.{le-refl}
+use mathlib.Core.Path.{_≡_, sym, ap, _∙_, subst}
+use mathlib.Core.Bool.{true, false}
+use Prim.Native.Nat.{ℕ, _+_, _<_, _≤_}
 use native.Mathlib.Numerals.{add-one}
 use native.Mathlib.Decide.{decLt}
 use native.Mathlib.Omega.{arith}
-use borrow.Author.Tests.{not-false}
 use lib.Dec.{T}
-use lib.ListN.{length, getD, take}
-use lib.Seq.{ext-getD, getD-take, length-take-le}
+use lib.ListN.{length, getD}
 use Rattle.net.specs.Tests.{allBelow}
 use Rattle.net.specs.Net.{register, settle, step, round, after, stopped, Counts}
 use Rattle.net.proofs.Bools.{T-of, of-T, true-false, all-at, all-of}
 use Rattle.net.proofs.Settle.{Ranked, Agree, step-register, settle-register, settle-agree, step-agree}
 use Rattle.net.proofs.Rounds.{after-suc}
 use Rattle.circuit.specs.Record.{role}
-use Rattle.circuit.specs.Circuit.{Circuit, circuit, recordOf, graph, NoLoop}
-use Rattle.circuit.proofs.Tables.{Inside, circuit-length, circuit-inside, circuit-ranked}
+use Rattle.circuit.specs.Circuit.{Circuit, recordOf, graph, NoLoop}
+use Rattle.circuit.proofs.Tables.{Inside, circuit-ranked}
 use Rattle.fact.specs.declared.Fact.{Fact}
 use Rattle.fact.specs.Fact.{same}
 use Rattle.fact.specs.Rule.{rule}
 use Rattle.fact.specs.Certificate.{initialStore, rounds, certificate}
 use Rattle.fact.proofs.Order.{same-eq, same-refl}
 use Rattle.fact.proofs.Certificate.{rules-local, rules-agree, rounds-counted}
-use Rattle.schedule.specs.Schedule.{registerList, Ordered}
+use Rattle.schedule.specs.Schedule.{registerList}
 use Rattle.schedule.proofs.Registers.{registerList-register, registerList-all}
-use Rattle.schedule.proofs.Orders.{ordered-no-loop}
-use Rattle.certificate.specs.Cells.{storeOf, Written}
 use Rattle.certificate.specs.Staging.{staysAt}
-use Rattle.certificate.specs.Ready.{Ready}
 
 module _ (c : Circuit) (inside : Inside c) (noLoop : NoLoop c) where
   ranked : Ranked (graph c)

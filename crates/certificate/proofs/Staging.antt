@@ -1,17 +1,17 @@
 -- Staging the registers' facts and writing them together: the invariants of the two passes, and that they end in the
 -- store after the step of a round.
 -- Assumes nothing.
-use mathlib.Core.Path.{_≡_, refl, sym, ap, _∙_, subst}
-use mathlib.Core.Bool.{Bool, true, false, not, _&&_, _||_, cond}
+use mathlib.Core.Path.{_≡_, refl, sym, ap, _∙_}
+use mathlib.Core.Bool.{Bool, true, false, not, _&&_, _||_}
 use mathlib.Core.List.{List}
-use Prim.Native.Nat.{ℕ, zero, suc, _+_, _*_, _^_, _<_, _≤_}
+use Prim.Native.Nat.{ℕ, _+_, _*_, _^_, _<_, _≤_}
 use native.Mathlib.Nat.{not-suc-le-zero}
 use native.Mathlib.Decide.{ℕ-discrete}
 use native.Mathlib.Numerals.{add-one}
 use native.Mathlib.Omega.{arith}
 use borrow.Author.Tests.{eqb-true}
 use lib.Dec.{eqb}
-use lib.ListN.{length, getD, set, length-set}
+use lib.ListN.{length, getD, set}
 use lib.Seq.{sets, getD-set-same, getD-set-other}
 use Rattle.net.specs.Tests.{allBelow}
 use Rattle.net.specs.Net.{step}
@@ -20,7 +20,7 @@ use Rattle.circuit.specs.declared.record.Record.the-variants.{Register}
 use Rattle.circuit.specs.Circuit.{Circuit, recordOf, graph}
 use Rattle.fact.specs.declared.Fact.{Fact}
 use Rattle.fact.specs.declared.Fact.the-variants.{Always, Open, Marked}
-use Rattle.fact.specs.Fact.{same, join, narrow, factByte, factNumber, factBytes, factOf}
+use Rattle.fact.specs.Fact.{join, narrow, factByte, factNumber, factBytes, factOf}
 use Rattle.fact.specs.Rule.{ruleOf, rule}
 use Rattle.schedule.specs.Schedule.{registerList}
 use Rattle.schedule.specs.Scratch.{KeptOutside}

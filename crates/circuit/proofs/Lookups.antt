@@ -2,20 +2,17 @@
 -- Assumes nothing.
 use mathlib.Core.Path.{_≡_, refl, sym, ap, _∙_}
 use mathlib.Core.List.{List, [], _∷_, map}
-use Prim.Native.Nat.{ℕ, zero, suc, _≤_, _<_, zero-le, suc-le-suc}
+use Prim.Native.Nat.{ℕ, zero, suc, _≤_, _<_, zero-le}
 use native.Mathlib.Omega.{arith}
 use lib.ListN.{length, getD}
 use Rattle.circuit.specs.declared.operator.Operator.{Operator}
 use Rattle.circuit.specs.declared.operator.Operator.the-variants.{ShiftRight}
-use Rattle.circuit.specs.declared.operator.ReadOperator.{ReadOperator}
 use Rattle.circuit.specs.declared.operator.ReadOperator.the-variants as read-operator
 use Rattle.circuit.specs.declared.record.Kind.{Kind}
 use Rattle.circuit.specs.declared.record.Kind.the-variants as kind
-use Rattle.circuit.specs.declared.record.ReadKind.{ReadKind}
 use Rattle.circuit.specs.declared.record.ReadKind.the-variants as read-kind
 use Rattle.circuit.specs.declared.record.InputKind.{InputKind}
 use Rattle.circuit.specs.declared.record.InputKind.the-variants.{Secret}
-use Rattle.circuit.specs.declared.record.ReadInput.{ReadInput}
 use Rattle.circuit.specs.declared.record.ReadInput.the-variants as read-input
 use Rattle.circuit.specs.Operator.{operators, operatorOf, readOperator}
 use Rattle.circuit.specs.Reading.{kinds, kindNumber, readKind, inputKinds, inputKindOf, readInput}

@@ -1,8 +1,8 @@
 -- The scan of a table's records, step by step.
 -- Assumes nothing.
-use mathlib.Core.Path.{_≡_, refl, ap, _∙_}
+use mathlib.Core.Path.{_≡_}
 use mathlib.Core.List.{List}
-use Prim.Native.Nat.{ℕ, zero, suc, _+_, _-_, _*_, _≤_, _<_}
+use Prim.Native.Nat.{ℕ, suc, _+_, _-_, _*_, _≤_, _<_}
 use native.Mathlib.Nat.{sub-zero}
 use native.Mathlib.Omega.{arith}
 use Rattle.circuit.specs.declared.record.Record.{Record}
@@ -10,7 +10,7 @@ use Rattle.circuit.specs.declared.record.ReadRecord.the-variants.{Read, 
 use Rattle.circuit.specs.declared.refusal.Check.the-variants as check
 use Rattle.circuit.specs.declared.refusal.Ground.{Ground}
 use Rattle.circuit.specs.Reading.{fieldsAt, readRecord}
-use Rattle.circuit.specs.Checks.{atRecord, checkRecordsFrom, checkRecords}
+use Rattle.circuit.specs.Checks.{checkRecordsFrom, checkRecords}
 
 -- one more is left before i than after it
 steps-left : (n i : ℕ) → i < n → n - i ≡ suc (n - (i + 1))

@@ -1,18 +1,16 @@
 -- What holds of a table that meets none of grounds 5 to 10: its circuit has its records, and they use its variables
 -- alone. A circuit of which that holds, and that has no loop, has a rank.
 -- Assumes nothing.
-use mathlib.Core.Path.{_≡_, refl, sym, ap, _∙_, subst}
+use mathlib.Core.Path.{_≡_, refl, subst}
 use mathlib.Core.Logic.{⊎-elim}
 use mathlib.Core.List.{List}
 use Prim.Native.Nat.{ℕ, zero, suc, _+_, _*_, _<_, _≤_}
-use native.Mathlib.Nat.{le-refl}
 use native.Mathlib.Decide.{ℕ-discrete}
 use native.Mathlib.Omega.{arith}
 use borrow.Author.Tests.{ltb-true}
 use lib.Dec.{T, ltb}
-use lib.ListN.{length, getD}
-use Rattle.net.specs.Tests.{every, member}
-use Rattle.net.specs.Net.{listBelow}
+use lib.ListN.{length}
+use Rattle.net.specs.Tests.{member}
 use Rattle.net.specs.Loop.{Uses}
 use Rattle.net.proofs.Bools.{T-of, of-T, every-at}
 use Rattle.net.proofs.Lists.{length-listBelow, getD-listBelow}

@@ -2,21 +2,19 @@
 -- counted as document 01 counts them, at most twice the registers, and it holds of two runs over lists of stimuli of
 -- any length.
 -- Assumes nothing.
-use mathlib.Core.Path.{_≡_, refl, sym, ap, _∙_, subst, fun-ext}
-use mathlib.Core.Logic.{_⊎_, inl, inr, ⊎-elim}
-use mathlib.Core.Bool.{Bool, true, false, not, cond}
-use mathlib.Core.List.{List, [], _∷_}
-use mathlib.Core.Option.{Option, none, some}
+use mathlib.Core.Path.{_≡_, refl, sym, ap, _∙_, subst}
+use mathlib.Core.Logic.{_⊎_, inl, inr}
+use mathlib.Core.Bool.{false}
+use mathlib.Core.List.{List}
+use mathlib.Core.Option.{none, some}
 use Prim.Native.Nat.{ℕ, suc, _*_, _<_, _≤_}
-use native.Mathlib.Nat.{le-of-eq}
 use native.Mathlib.Omega.{arith}
 use borrow.Author.Tests.{eqb-true, not-false}
-use lib.Dec.{T, eqb}
+use lib.Dec.{T}
 use lib.ListN.{length}
 use Rattle.net.specs.declared.Stimulus.{Stimulus}
 use Rattle.net.specs.Tests.{member}
-use Rattle.net.specs.Net.{input, wire, register, sumBelow, sumRegisters, settle, count, stopped, Fixed, Counts}
-use Rattle.net.specs.Loop.{Uses}
+use Rattle.net.specs.Net.{input, wire, register, sumRegisters, stopped, Fixed, Counts}
 use Rattle.net.specs.Machine as machine
 use Rattle.net.proofs.Bools.{member-1, member-2, member-3}
 use Rattle.net.proofs.Sums.{sumRegisters-scale}
@@ -35,10 +33,10 @@ use Rattle.circuit.proofs.Tables.{Inside, circuit-ranked}
 use Rattle.circuit.proofs.Values.{values-local}
 use Rattle.circuit.proofs.Stimuli.{Poked, poke-passed, input-record}
 use Rattle.fact.specs.declared.Fact.{Fact}
-use Rattle.fact.specs.declared.Fact.the-variants.{Always, Open, Marked}
+use Rattle.fact.specs.declared.Fact.the-variants.{Always, Open}
 use Rattle.fact.specs.Fact.{_⊑_, itself, same, narrow}
 use Rattle.fact.specs.Rule.{inputRule, ruleOf, rule}
-use Rattle.fact.specs.Certificate.{ClosedStore, LeastStore, initialFact, initialStore, registers, rounds, certificate}
+use Rattle.fact.specs.Certificate.{LeastStore, initialFact, initialStore, registers, rounds, certificate}
 use Rattle.fact.specs.TwoRuns.{isSecret, AlikeLists, Claims, number, alike, nothing}
 use Rattle.fact.proofs.Order.{⊑-of-eq, ⊑-trans, ⊑-antisym, same-eq, same-refl, height, height-rises, height-most, join-right, operator-mono, multiplexer-mono, register-mono}
 use Rattle.fact.proofs.Claims.{claims-up, claims-operator, claims-multiplexer, claims-register}

@@ -13,7 +13,7 @@ use Rattle.fact.specs.declared.Fact.the-variants.{Always, Open, Marked}
 use Rattle.fact.specs.Fact.{_⊑_, itself, always-open, always-marked, open-marked, join, narrow}
 use Rattle.fact.specs.Rule.{operatorRule, alwaysOrMarked, choose, multiplexerRule, registerRule}
 use Rattle.fact.specs.TwoRuns.{Claims, number, alike, nothing}
-use Rattle.fact.proofs.Order.{join-left, join-right, alwaysOrMarked-above}
+use Rattle.fact.proofs.Order.{join-left, join-right}
 
 pub claims-always : {n x y : ℕ} → Claims (Always n) x y → (x ≡ n) × (y ≡ n)
 claims-always number = (refl, refl)

@@ -3,13 +3,12 @@
 -- Assumes nothing.
 use mathlib.Core.Path.{_≡_, refl, sym, ap, _∙_, subst}
 use mathlib.Core.Bool.{Bool, true, false, cond}
-use Prim.Native.Nat.{ℕ, _≤_, _<_, _%_, _^_}
+use Prim.Native.Nat.{ℕ, _≤_, _<_, _^_}
 use native.Mathlib.Nat.{mod-mod}
 use borrow.Author.Tests.{eqb-true, eqb-false}
 use lib.Dec.{eqb, eqb-refl, lit<, lit≤}
 use Rattle.net.proofs.Bools.{cond-case, of-T, true-false}
 use Rattle.circuit.specs.declared.operator.Operator as operator
-use Rattle.circuit.specs.Operator.{result}
 use Rattle.fact.specs.declared.Fact.{Fact}
 use Rattle.fact.specs.declared.Fact.the-variants.{Always, Open, Marked}
 use Rattle.fact.specs.Fact.{_⊑_, itself, always-open, always-marked, open-marked, same, join, narrow}

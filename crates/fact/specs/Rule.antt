@@ -1,6 +1,6 @@
 -- The rule of each kind of record, as a function of its operands' facts, and the rule of a circuit over a store.
 -- Assumes nothing.
-use mathlib.Core.Bool.{Bool, true, false, cond}
+use mathlib.Core.Bool.{cond}
 use Prim.Native.Nat.{ℕ}
 use lib.Dec.{eqb}
 use Rattle.circuit.specs.declared.operator.Operator as operator

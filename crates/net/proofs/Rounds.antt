@@ -4,12 +4,11 @@
 -- Assumes nothing.
 use mathlib.Core.Path.{_≡_, refl, sym, ap, _∙_, subst}
 use mathlib.Core.Bool.{Bool, true, false, not}
-use Prim.Native.Nat.{ℕ, zero, suc, _+_, _≤_, _<_, zero-le}
+use Prim.Native.Nat.{ℕ, zero, suc, _+_, _≤_, _<_}
 use native.Mathlib.Nat.{not-suc-le-zero, le-refl, le-of-eq}
 use native.Mathlib.Decide.{decLt}
 use native.Mathlib.Omega.{arith}
 use lib.Dec.{T}
-use Rattle.net.specs.Tests.{allBelow}
 use Rattle.net.specs.Net.{Graph, input, wire, register, settle, step, round, after, unchanged, still, count, stopped, sumRegisters, Settled, Fixed, Closed, Still, Changing, Counts}
 use Rattle.net.specs.Loop.{Uses}
 use Rattle.net.proofs.Bools.{T-of, of-T, true-false, all-at, fails-below}

@@ -1,13 +1,13 @@
 -- Two runs of the machine stay related by a store that is fixed under the rule, over two lists of stimuli entire.
 -- What ties the rule of a lattice to the machine's numbers is a premise.
 -- Assumes nothing.
-use mathlib.Core.Path.{_≡_, refl, sym, _∙_}
+use mathlib.Core.Path.{_≡_, refl}
 use mathlib.Core.Bool.{Bool, true, false}
-use mathlib.Core.List.{List, [], _∷_}
+use mathlib.Core.List.{List}
 use Prim.Native.Nat.{ℕ, _<_}
 use lib.Dec.{eqb, eqb→eq}
 use Rattle.net.specs.declared.Stimulus.{Stimulus}
-use Rattle.net.specs.Net.{Graph, input, wire, register, settle, step, round, Settled, Fixed}
+use Rattle.net.specs.Net.{Graph, input, wire, register, settle, step, round, Fixed}
 use Rattle.net.specs.Loop.{Uses}
 use Rattle.net.specs.Machine.{put, run, Alike, none, ticks, pokes}
 use Rattle.net.proofs.Bools.{T-of}

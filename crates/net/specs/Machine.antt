@@ -1,6 +1,6 @@
 -- Document 01's bench machine, as a net of numbers: its state is one number a variable, and a tick is a round.
 -- Assumes nothing.
-use mathlib.Core.Bool.{Bool, true, false}
+use mathlib.Core.Bool.{true, false}
 use mathlib.Core.List.{List, [], _∷_}
 use Prim.Native.Nat.{ℕ}
 use lib.Dec.{eqb}

@@ -1,6 +1,5 @@
 // Reads tables from standard input, checks and schedules each, and prints one line a table. A table is headed by two
 // bytes, the number of its records.
-ghost use mathlib.Core.Path.{_≡_};
 ghost use Prim.Native.Nat.{_*_, _≤_, _<_};
 ghost use lib.ListN.{length};
 use crate::print::print_outcome;

@@ -1,7 +1,6 @@
 -- What is told stands in the certificate or in the line.
 -- Assumes nothing.
 use mathlib.Core.Path.{sym}
-use native.Mathlib.Omega.{arith}
 use lib.Seq.{length-take-le}
 use borrow.Author.Needs.{needs}
 use Rattle.certify.proofs.print_bytes.Statement.{statement}

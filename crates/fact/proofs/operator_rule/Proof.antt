@@ -1,7 +1,6 @@
 -- Each pair of facts in turn; two numbers are evaluated by the operator's code.
 -- Assumes nothing.
 use mathlib.Core.Path.{ap, _∙_}
-use Rattle.circuit.specs.Operator.{resultOfCode}
 use Rattle.circuit.proofs.Operators.{result-of-code}
 use Rattle.fact.specs.declared.Fact.the-variants.{Always}
 use borrow.Author.Needs.{needs}

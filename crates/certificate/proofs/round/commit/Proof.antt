@@ -5,7 +5,7 @@ use mathlib.Core.List.{List}
 use Prim.Native.Nat.{ℕ, _+_, _-_, _≤_}
 use native.Mathlib.Omega.{arith}
 use borrow.Author.Needs.{needs}
-use lib.ListN.{length, getD}
+use lib.ListN.{getD}
 use Rattle.circuit.specs.Circuit.{circuit}
 use Rattle.circuit.proofs.Decoding.{register-decoded}
 use Rattle.circuit.proofs.Tables.{circuit-length, circuit-record}

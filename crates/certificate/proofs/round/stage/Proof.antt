@@ -1,12 +1,12 @@
 -- The loop's invariant: the first j registers are staged, and whether one of them changes. The measure is what is
 -- left of them.
 -- Assumes nothing.
-use mathlib.Core.Path.{_≡_, refl, sym, ap, ap₂, _∙_, subst}
+use mathlib.Core.Path.{_≡_, refl, ap, ap₂, _∙_, subst}
 use mathlib.Core.Bool.{Bool, not, _||_}
-use Prim.Native.Nat.{ℕ, _+_, _-_, _≤_, _<_}
+use Prim.Native.Nat.{ℕ, _-_, _≤_}
 use native.Mathlib.Omega.{arith}
 use borrow.Author.Needs.{needs}
-use lib.ListN.{length, getD}
+use lib.ListN.{getD}
 use Rattle.net.specs.Tests.{allBelow}
 use Rattle.circuit.specs.Circuit.{circuit}
 use Rattle.fact.specs.declared.Fact.{Fact}

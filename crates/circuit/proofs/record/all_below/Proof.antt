@@ -1,8 +1,6 @@
 -- One that is not below decides; the last decides where all before are below.
 -- Assumes nothing.
 use Rattle.circuit.proofs.Records.{three-below}
-use mathlib.Core.Path.{sym}
-use mathlib.Core.Bool.{and-true}
 use borrow.Author.Tests.{lt-ltb, le-ltb}
 use Rattle.net.specs.Tests.{every}
 use Rattle.circuit.proofs.record.all_below.Statement.{statement}

@@ -1,7 +1,7 @@
 -- Each kind byte gives its record.
 -- Assumes nothing.
 use mathlib.Core.Path.{sym, ap, _∙_}
-use Rattle.circuit.specs.declared.record.Record.the-variants.{Input, Operator}
+use Rattle.circuit.specs.declared.record.Record.the-variants.{Input}
 use Rattle.circuit.proofs.Bytes.{past4}
 use Rattle.circuit.proofs.Decoding.{decode-input, decode-constant, decode-operator, decode-multiplexer, decode-register}
 use borrow.Author.Needs.{needs}

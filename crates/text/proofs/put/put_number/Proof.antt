@@ -1,7 +1,6 @@
 -- The loop's invariant: the digits behind those of the rest stand. The measure is the rest.
 -- Assumes nothing.
 use mathlib.Core.Path.{_∙_}
-use Prim.Native.Nat.{_≤_}
 use native.Mathlib.Omega.{arith}
 use Rattle.text.proofs.Pieces.{PutDigits, no-digits, digits-room, one-digit, last-digit}
 use Rattle.text.proofs.put.put_number.Statement.{statement}
