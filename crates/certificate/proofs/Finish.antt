@@ -28,7 +28,8 @@ pub initial-settled : (t : List ℕ) (n : ℕ) → Inside (circuit t n) → NoLo
 unfolding initialStore
 initial-settled t n inside noLoop first settled e h v below =
     h v below
-    ∙ settle-agree (circuit-ranked (circuit t n) inside noLoop) (rule (circuit t n)) (rules-local (circuit t n)) (storeOf first n) (λ u. initialFact (recordOf (circuit t n) u))
+    ∙ settle-agree (circuit-ranked (circuit t n) inside noLoop) (rule (circuit t n)) (rules-local (circuit t n))
+    (storeOf first n) (λ u. initialFact (recordOf (circuit t n) u))
     (λ u l.
     ap (λ (fs : List Fact). getD fs u Open) e
     ∙ getD-listBelow (λ w. initialFact (recordOf (circuit t n) w)) n u Open (omega (arith, circuit-length t n)))

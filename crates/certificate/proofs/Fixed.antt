@@ -1,5 +1,5 @@
--- Demand 1's fixed contents: two promises on equal buffers at entry have equal answers and equal buffers at exit, unless
--- both show a loop.
+-- Demand 1's fixed contents: two promises on equal buffers at entry have equal answers and equal buffers at exit,
+-- unless both show a loop.
 -- Assumes nothing.
 use mathlib.Core.Path.{_≡_, sym, ap, ap₂, _∙_}
 use mathlib.Core.Logic.{_⊎_, inl, inr}
@@ -35,7 +35,8 @@ module _ (t output scratch output₁ scratch₁ output₂ scratch₂ : List ℕ)
       inl (
         ap Accepted e,
         p .certificate
-            ∙ ap (λ (i : ℕ). flatMap factBytes (listBelow (after (graph c) (rule c) i (initialStore c)) (size first)) ++
+            ∙ ap (λ (i : ℕ). flatMap factBytes (listBelow (after (graph c) (rule c) i (initialStore c)) (size first))
+            ++
             drop (size first * 8) output) e
             ∙ sym (q .certificate),
         p .scratch ∙ sym (q .scratch),

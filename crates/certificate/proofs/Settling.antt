@@ -38,7 +38,8 @@ module _ (t : List ℕ) (n : ℕ) (scratch : List ℕ) (wires : ℕ) (few : wire
 
   module _ (entry cells : List ℕ) (i : ℕ) (p : Passed-wires t n (take wires scratch) entry cells i) where
     pub one-passed : (v : ℕ) (f : Fact) → i < wires → v ≡ getD scratch i 0 → f ≡ rule (circuit t n) (storeOf cells n) v
-        → factNumber f < 2 ^ 32 → Passed-wires t n (take wires scratch) entry (sets cells (v * 8) (factBytes f)) (i + 1)
+        → factNumber f < 2 ^ 32 → Passed-wires t n (take wires scratch) entry (sets cells (v * 8) (factBytes f))
+        (i + 1)
     one-passed v f h e is fit =
         record {
           written = written-store (p .written) v f below fit;

@@ -72,7 +72,8 @@ one-staged c s n entry scratch j byte p h room is =
       staged = λ k q. elim (ℕ-discrete k j) [ yes e ↦ here k e | no ne ↦ there k ne (omega arith) ];
     }
   where
-    here : (k : ℕ) → k ≡ j → getD (set scratch (n + j) byte) (n + k) 0 ≡ factByte (rule c s (getD (registerList c) k 0))
+    here : (k : ℕ) → k ≡ j → getD (set scratch (n + j) byte) (n + k) 0 ≡ factByte
+        (rule c s (getD (registerList c) k 0))
     here k e = rw e (getD-set-same scratch (n + j) byte 0 (omega (arith, p .kept .long)) ∙ is)
 
     there : (k : ℕ) → (k ≡ j → ⊥) → k < j

@@ -40,16 +40,19 @@ fn certify_ordered(
     registers: usize,
     cells: &mut [u8],
 ) -> u32
-    requires { ⌜ (n * 16 ≤ length (now t)) × (n ≤ 4096) × (n * 8 ≤ length (now cells)) × (n * 4 ≤ length (now scratch)) ⌝ }
+    requires { ⌜ (n * 16 ≤ length (now t)) × (n ≤ 4096)
+        × (n * 8 ≤ length (now cells)) × (n * 4 ≤ length (now scratch)) ⌝ }
     requires { ⌜ (wires + registers ≤ n) × (registers ≡ length (registerList (circuit (now t) n))) ⌝ }
     requires { ⌜ checkRecords (now t) n ≡ Passed ⌝ }
     requires { ⌜ Ordered (circuit (now t) n) (take wires (now scratch)) ⌝ }
     requires { ⌜ Listed (circuit (now t) n) (now scratch) wires ⌝ }
     ensures { λ r. ⌜ r ≡ definition.rounds (circuit (now (t .entry)) n) ⌝ }
     ensures { λ _. ⌜ now (cells .exit)
-        ≡ flatMap factBytes (listBelow (definition.certificate (circuit (now (t .entry)) n)) n) ++ drop (n * 8) (now (cells .entry)) ⌝ }
+        ≡ flatMap factBytes (listBelow (definition.certificate (circuit (now (t .entry)) n)) n)
+        ++ drop (n * 8) (now (cells .entry)) ⌝ }
     ensures { λ _. ⌜ now (scratch .exit) ≡ replicate (n * 4) 0 ++ drop (n * 4) (now (scratch .entry)) ⌝ }
-    ensures { λ _. ⌜ ((v : ℕ) → v < n → factAt (now (cells .exit)) v ≡ definition.certificate (circuit (now (t .entry)) n) v) ⌝ }
+    ensures { λ _. ⌜ ((v : ℕ) → v < n
+        → factAt (now (cells .exit)) v ≡ definition.certificate (circuit (now (t .entry)) n) v) ⌝ }
 {
     write_initial(t, n, cells);
     settle(t, n, scratch, wires, cells);
@@ -62,7 +65,8 @@ fn certify_ordered(
 fn certify_checked(t: &[u8], cells: &mut [u8], scratch: &mut [u16]) -> Certified
     requires { ⌜ checkCall (now t) (length (now cells)) 8 (length (now scratch)) 4 ≡ Passed ⌝ }
     ensures { λ r. ⌜ Certifies
-        (buffers (now (t .entry)) (now (cells .entry)) (now (scratch .entry)) (now (cells .exit)) (now (scratch .exit))) r ⌝ }
+        (buffers (now (t .entry)) (now (cells .entry)) (now (scratch .entry))
+        (now (cells .exit)) (now (scratch .exit))) r ⌝ }
 {
     let n = t.len() / 16;
     let outcome = schedule(t, n, n * 4, scratch);
@@ -77,7 +81,8 @@ fn certify_checked(t: &[u8], cells: &mut [u8], scratch: &mut [u16]) -> Certified
 // The certifying call.
 pub fn certify(table: &[u8], certificate: &mut [u8], scratch: &mut [u16]) -> Certified
     ensures { λ r. ⌜ Certifies
-        (buffers (now (table .entry)) (now (certificate .entry)) (now (scratch .entry)) (now (certificate .exit)) (now (scratch .exit))) r ⌝ }
+        (buffers (now (table .entry)) (now (certificate .entry)) (now (scratch .entry))
+        (now (certificate .exit)) (now (scratch .exit))) r ⌝ }
 {
     let check = check_call(table, certificate.len(), 8, scratch.len(), 4);
     match check {

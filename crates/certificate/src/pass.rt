@@ -47,7 +47,8 @@ fn initial_fact(r: Record) -> Fact
 pub fn write_initial(t: &[u8], n: usize, cells: &mut [u8])
     requires { ⌜ (n * 16 ≤ length (now t)) × (n * 8 ≤ length (now cells)) ⌝ }
     ensures { λ _. ⌜ Written n (now (cells .entry)) (now (cells .exit)) ⌝ }
-    ensures { λ _. ⌜ facts (now (cells .exit)) n ≡ listBelow (λ v. initialFact (recordOf (circuit (now (t .entry)) n) v)) n ⌝ }
+    ensures { λ _. ⌜ facts (now (cells .exit)) n
+        ≡ listBelow (λ v. initialFact (recordOf (circuit (now (t .entry)) n) v)) n ⌝ }
 {
     let mut i: usize = 0;
     while i < n {
@@ -104,7 +105,8 @@ pub fn settle(t: &[u8], n: usize, scratch: &[u16], wires: usize, cells: &mut [u8
     requires { ⌜ Written n (now cells) (now cells) ⌝ }
     ensures { λ _. ⌜ Written n (now (cells .entry)) (now (cells .exit)) ⌝ }
     ensures { λ _. ⌜ ((v : ℕ) → v < n → storeOf (now (cells .exit)) n v
-        ≡ net.settle (graph (circuit (now (t .entry)) n)) (rule (circuit (now (t .entry)) n)) (storeOf (now (cells .entry)) n) v) ⌝ }
+        ≡ net.settle (graph (circuit (now (t .entry)) n)) (rule (circuit (now (t .entry)) n))
+        (storeOf (now (cells .entry)) n) v) ⌝ }
 {
     let mut i: usize = 0;
     while i < wires {

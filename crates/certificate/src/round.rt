@@ -72,8 +72,10 @@ pub fn stage(
     requires { ⌜ checkRecords (now t) n ≡ Passed ⌝ }
     requires { ⌜ Listed (circuit (now t) n) (now scratch) first ⌝ }
     ensures { λ _. ⌜ KeptOutside n (n + n) (now (scratch .entry)) (now (scratch .exit)) ⌝ }
-    ensures { λ _. ⌜ StagedTo (circuit (now (t .entry)) n) (storeOf (now (cells .entry)) n) (now (scratch .exit)) n registers ⌝ }
-    ensures { λ r. ⌜ r ≡ not (allBelow (staysAt (circuit (now (t .entry)) n) (storeOf (now (cells .entry)) n)) registers) ⌝ }
+    ensures { λ _. ⌜ StagedTo (circuit (now (t .entry)) n) (storeOf (now (cells .entry)) n)
+        (now (scratch .exit)) n registers ⌝ }
+    ensures { λ r. ⌜ r
+        ≡ not (allBelow (staysAt (circuit (now (t .entry)) n) (storeOf (now (cells .entry)) n)) registers) ⌝ }
 {
     let mut changed = false;
     let mut j: usize = 0;
@@ -109,7 +111,8 @@ pub fn commit(t: &[u8], n: usize, scratch: &[u16], first: usize, registers: usiz
     requires { ⌜ Written n (now cells) (now cells) ⌝ }
     ensures { λ _. ⌜ Written n (now (cells .entry)) (now (cells .exit)) ⌝ }
     ensures { λ _. ⌜ ((v : ℕ) → v < n → storeOf (now (cells .exit)) n v
-        ≡ step (graph (circuit (now (t .entry)) n)) (rule (circuit (now (t .entry)) n)) (storeOf (now (cells .entry)) n) v) ⌝ }
+        ≡ step (graph (circuit (now (t .entry)) n)) (rule (circuit (now (t .entry)) n))
+        (storeOf (now (cells .entry)) n) v) ⌝ }
 {
     let mut j: usize = 0;
     while j < registers {
@@ -133,7 +136,8 @@ pub fn run_rounds(
     requires { ⌜ ((v : ℕ) → v < n → storeOf (now cells) n v ≡ initialStore (circuit (now t) n) v) ⌝ }
     ensures { λ _. ⌜ KeptOutside n (n + n) (now (scratch .entry)) (now (scratch .exit)) ⌝ }
     ensures { λ _. ⌜ Written n (now (cells .entry)) (now (cells .exit)) ⌝ }
-    ensures { λ _. ⌜ ((v : ℕ) → v < n → storeOf (now (cells .exit)) n v ≡ certificate (circuit (now (t .entry)) n) v) ⌝ }
+    ensures { λ _. ⌜ ((v : ℕ) → v < n
+        → storeOf (now (cells .exit)) n v ≡ certificate (circuit (now (t .entry)) n) v) ⌝ }
     ensures { λ r. ⌜ r ≡ rounds (circuit (now (t .entry)) n) ⌝ }
 {
     let mut count: u32 = 0;

@@ -1,5 +1,5 @@
-// Reads a table from standard input and prints its certificate as text, or with --bytes as 8 bytes a variable; or why it
-// is refused. Only reading and writing is done here; the answer and its text come from the proved library `text`.
+// Reads a table from standard input and prints its certificate as text, or with --bytes as 8 bytes a variable; or why
+// it is refused. Only reading and writing is done here; the answer and its text come from the proved library `text`.
 use libc::STDERR_FILENO;
 use libc::STDIN_FILENO;
 use libc::STDOUT_FILENO;

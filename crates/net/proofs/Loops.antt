@@ -65,7 +65,8 @@ unfolding distinct
 distinct-getD [] d i j h k e = absurd (not-suc-le-zero h)
 distinct-getD (x ∷ xs) d zero zero h k e = refl
 distinct-getD (x ∷ xs) d zero (suc j) h k e =
-    not-both (member x xs) (rw e (member-getD xs j (le-of-suc-le-suc k))) (and-left (not (member x xs)) (distinct xs) d)
+    not-both (member x xs) (rw e (member-getD xs j (le-of-suc-le-suc k)))
+    (and-left (not (member x xs)) (distinct xs) d)
 distinct-getD (x ∷ xs) d (suc i) zero h k e =
     not-both (member x xs) (rw (← e) (member-getD xs i (le-of-suc-le-suc h)))
     (and-left (not (member x xs)) (distinct xs) d)
@@ -129,7 +130,11 @@ occurrences-once v (x ∷ xs) d =
   where
     go : (b : Bool) → eqb v x ≡ b → occurrences v xs ≤ 1 → cond b 1 0 + occurrences v xs ≤ 1
     go true e ih =
-        omega (arith, occurrences-none v xs (rw (eqb→eq v x (T-of _ e)) (and-left (not (member x xs)) (distinct xs) d)))
+        omega (
+          arith,
+          occurrences-none v xs
+              (rw (eqb→eq v x (T-of _ e)) (and-left (not (member x xs)) (distinct xs) d)),
+        )
     go false e ih = omega arith
 
 length-occurrences : (l : List ℕ) (n : ℕ) → ((v : ℕ) → T (member v l) → v < n)
@@ -202,7 +207,8 @@ module _ (g : Graph) (inside : (v u : ℕ) → v < g .size → Uses g v u → u 
         → (j : ℕ) × (first-layer v ≡ suc j) × ((u : ℕ) → Uses g v u → T (layer g j u))
     unfolding first-layer
     uses-below v h e =
-        go (first-layer v) refl (first-passes (λ k. layer g k v) (g .size) (all-at (layer g (g .size)) (g .size) t v h))
+        go (first-layer v) refl
+        (first-passes (λ k. layer g k v) (g .size) (all-at (layer g (g .size)) (g .size) t v h))
       where
         go : (k : ℕ) → first-layer v ≡ k → T (layer g (first-layer v) v)
             → (j : ℕ) × (first-layer v ≡ suc j) × ((u : ℕ) → Uses g v u → T (layer g j u))

@@ -151,7 +151,8 @@ module _ {A : Type 0} {g : Graph} {le : A → A → Type 0} {f : (ℕ → A) →
         inputs = λ v h e. round-input s v e ∙ up .inputs v h e;
         registers = λ v h e.
             rw (round-register s v e)
-            (M .registers s (round g f s) v h e (λ u x. round-above s up u (r .inside v u h x)) (round-above s up v h));
+            (M .registers s (round g f s) v h e (λ u x. round-above s up u (r .inside v u h x))
+            (round-above s up v h));
       }
 
   after-rising : (k : ℕ) (s : ℕ → A) → Rising s → Rising (after g f k s)

@@ -136,7 +136,8 @@ module _ {A : Type 0} {g : Graph} (r : Ranked g) (f : (ℕ → A) → ℕ → A)
 abbrev pub Agree : {A : Type 0} → Graph → (ℕ → A) → (ℕ → A) → Type 0
 Agree g s t = (v : ℕ) → v < g .size → s v ≡ t v
 
-pub settle-agree : {A : Type 0} {g : Graph} → Ranked g → (f : (ℕ → A) → ℕ → A) → Local g f → (s t : ℕ → A) → Agree g s t
+pub settle-agree : {A : Type 0} {g : Graph} → Ranked g → (f : (ℕ → A) → ℕ → A) → Local g f → (s t : ℕ → A) → Agree g s
+    t
     → Agree g (settle g f s) (settle g f t)
 settle-agree {g = g} r f loc s t h =
     settle-unique r f loc t (settle g f s) (settle-settled r f loc s)

@@ -119,7 +119,8 @@ module _ (c : Circuit) {from to : ℕ} {entry scratch : List ℕ} (kept : KeptOu
       there : length (take wires scratch) ≡ wires
       there = length-take-le wires scratch (omega (arith, kept .long))
 
-  pub listed-kept : (first : ℕ) → first + length (registerList c) ≤ from → Listed c entry first → Listed c scratch first
+  pub listed-kept : (first : ℕ) → first + length (registerList c) ≤ from → Listed c entry first → Listed c scratch
+      first
   listed-kept first h listed j l = kept .before (first + j) (omega arith) ∙ listed j l
 
 -- ---- a loop as the schedule leaves it is one as every call shows it

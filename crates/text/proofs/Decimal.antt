@@ -41,7 +41,8 @@ pub decimal-more : (n : ℕ) → 10 ≤ n → decimal n ≡ decimal (n / 10) ++ 
 unfolding decimal
 decimal-more n h =
     digits-more n n h
-    ∙ ap (λ (x : List ℕ). x ++ ((48 + n % 10) ∷ [])) (digits-enough n (suc (n / 10)) (n / 10) (omega arith) (omega arith))
+    ∙ ap (λ (x : List ℕ). x ++ ((48 + n % 10) ∷ []))
+    (digits-enough n (suc (n / 10)) (n / 10) (omega arith) (omega arith))
 
 -- a number below 10 to a power above 0 has at most so many digits
 pub decimal-short : (k n : ℕ) → n < 10 ^ suc k → length (decimal n) ≤ suc k

@@ -1,5 +1,5 @@
-// The text that the programs print, made in a lent buffer: numbers in base ten, lines, whole answers. It is put from the
-// buffer's end down, since a number's last digit comes out first; a function answers where the text begins.
+// The text that the programs print, made in a lent buffer: numbers in base ten, lines, whole answers. It is put from
+// the buffer's end down, since a number's last digit comes out first; a function answers where the text begins.
 ghost use Prim.Native.Nat.{_≤_};
 ghost use lib.ListN.{length};
 ghost use Rattle.schedule.specs.Call.{buffers};
@@ -22,7 +22,8 @@ use machine::bench;
 mod lines;
 mod put;
 
-// What is told to a program that reads the certificate's own bytes: how many they are, or where a refusal's line begins.
+// What is told to a program that reads the certificate's own bytes: how many they are, or where a refusal's line
+// begins.
 pub enum Report {
     Bytes(usize),
     Line(usize),
@@ -31,7 +32,8 @@ pub enum Report {
 // A refusal's line and, for ground 11, the line of the loop that the scratch shows.
 fn put_refused(out: &mut [u8], ground: Ground, place: usize, scratch: &[u16]) -> usize
     requires { ⌜ (131072 ≤ length (now out)) × ShowsRow ground place (length (now scratch)) ⌝ }
-    ensures { λ r. ⌜ Put (refusalText ground place (now (scratch .entry))) (now (out .entry)) (length (now (out .entry))) (now (out .exit)) r ⌝ }
+    ensures { λ r. ⌜ Put (refusalText ground place (now (scratch .entry)))
+        (now (out .entry)) (length (now (out .entry))) (now (out .exit)) r ⌝ }
 {
     let end = out.len();
     if ground_number(ground) == 11 {

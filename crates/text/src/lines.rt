@@ -26,7 +26,8 @@ pub fn put_refusal(out: &mut [u8], at: usize, ground: Ground, place: usize) -> u
 // The numbers of a loop from number 1 on, each with a space before it.
 fn put_spaced(out: &mut [u8], at: usize, scratch: &[u16], size: usize) -> usize
     requires { ⌜ (1 ≤ size) × (size ≤ length (now scratch)) × (size * 6 ≤ at) × (at ≤ length (now out)) ⌝ }
-    ensures { λ r. ⌜ Put (pieces (spaced (now (scratch .entry))) (size - 1) 1) (now (out .entry)) at (now (out .exit)) r ⌝ }
+    ensures { λ r. ⌜ Put (pieces (spaced (now (scratch .entry))) (size - 1) 1)
+        (now (out .entry)) at (now (out .exit)) r ⌝ }
     ensures { λ r. ⌜ at ≤ r + (size - 1) * 6 ⌝ }
 {
     let mut i = size;

@@ -49,18 +49,25 @@ returns-3 : tie.Need-returns-3
 returns-3 c = search needs
 
 array-share-prefix-table : tie.Need-array-share-prefix-table
-array-share-prefix-table c = rw (c .before .before .before .before .before .before .before .table-read .given .1) at (c .before .before .before .before .before .before .before .before .before .before .read-file .ensures)
+array-share-prefix-table c = rw (c .before .before .before .before .before .before .before .table-read .given .1) at
+    (c .before .before .before .before .before .before .before .before .before .before .read-file .ensures)
 
 slice-aggregate-print-run : tie.Need-slice-aggregate-print-run
 slice-aggregate-print-run c =
-    sym (length-take-le _ _ (rw (c .before .before .before .before .before .before .before .before .table-read .given .1) at (c .before .before .before .before .before .before .before .before .before .before .before .read-file .ensures)))
+    sym (length-take-le _ _
+    (rw (c .before .before .before .before .before .before .before .before .table-read .given .1) at
+    (c .before .before .before .before .before .before .before .before .before .before .before .read-file
+    .ensures)))
 
 array-share-prefix-stimuli : tie.Need-array-share-prefix-stimuli
-array-share-prefix-stimuli c = rw (c .before .before .stimuli-read .given .1) at (c .before .before .before .before .before .read-file2 .ensures)
+array-share-prefix-stimuli c = rw (c .before .before .stimuli-read .given .1) at
+    (c .before .before .before .before .before .read-file2 .ensures)
 
 slice-aggregate-print-run-2 : tie.Need-slice-aggregate-print-run-2
 slice-aggregate-print-run-2 c =
-    sym (length-take-le _ _ (rw (c .before .before .before .stimuli-read .given .1) at (c .before .before .before .before .before .before .read-file2 .ensures)))
+    sym (length-take-le _ _
+    (rw (c .before .before .before .stimuli-read .given .1) at
+    (c .before .before .before .before .before .before .read-file2 .ensures)))
 
 print-run-requires : tie.Need-print-run-requires
 print-run-requires c κs = search needs

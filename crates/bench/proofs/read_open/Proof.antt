@@ -20,7 +20,8 @@ same-length c = search needs
 returns : tie.Need-returns
 returns c =
     let full = c .before .before .before .before .read-full in
-    within-more (c .read-end .result) (full .result) (length (full .last .1 .0)) (full .ensures .0) (c .read-end .ensures)
+    within-more (c .read-end .result) (full .result) (length (full .last .1 .0)) (full .ensures .0)
+    (c .read-end .ensures)
 
 read-rest-requires : tie.Need-read-rest-requires
 read-rest-requires c κs = search needs
@@ -36,7 +37,8 @@ sub-t12 c = search needs
 
 add-t13 : tie.Need-add-t13
 add-t13 c =
-    let past : c .before .rest .given .0 .0 ≤ 7 = rw (c .before .rest .given .1) at (c .before .before .before .read-rest .ensures) in
+    let past : c .before .rest .given .0 .0 ≤ 7 = rw (c .before .rest .given .1) at
+    (c .before .before .before .read-rest .ensures) in
     omega (arith, c .before .before .before .before .before .before .before .read-full .kept .1 .0)
 
 same-length-2 : tie.Need-same-length-2
@@ -50,7 +52,8 @@ same-length-3 c = search needs
 
 returns-3 : tie.Need-returns-3
 returns-3 c =
-    let past : c .before .rest .given .0 .0 ≤ 7 = rw (c .before .rest .given .1) at (c .before .before .before .read-rest .ensures) in
+    let past : c .before .rest .given .0 .0 ≤ 7 = rw (c .before .rest .given .1) at
+    (c .before .before .before .read-rest .ensures) in
     omega (arith, c .before .before .before .before .before .before .before .read-full .kept .1 .0)
 
 pub read-open-spec : {M : Type 1} → statement M

@@ -73,15 +73,19 @@ same-length-3 c = search needs
 
 returns-2 : tie.Need-returns-2
 returns-2 c =
-    let x = c .before .before .before .before .before .before .before .before .before .before .before .before .before .before .before .before .before .args in
-    let ok = c .before .before .before .before .before .before .before .before .before .before .before .before .before .before .before .before .before .pre in
-    let call = c .before .before .before .before .before .before .before .before .before .before .before .before .schedule in
+    let x = c .before .before .before .before .before .before .before .before .before .before .before .before .before
+    .before .before .before .before .args in
+    let ok = c .before .before .before .before .before .before .before .before .before .before .before .before .before
+    .before .before .before .before .pre in
+    let call = c .before .before .before .before .before .before .before .before .before .before .before .before
+    .schedule in
     let told = c .before .before .before .before .before .before .before .before .outcome2 .given in
     let n = length (x .t .now) / 16 in
     let o : IsOrder (circuit (x .t .now) n) (n * 4) (x .scratch .now) (call .last .1 .1 .1 .0) (told .0 .0)
     (told .0 .1 .0) = rw (told .1) at (call .ensures) in
     let d = c .before .before .before .before .certify-ordered in
-    accepted (x .t .now) (x .cells .now) (x .scratch .now) ok (d .last .1 .1 .1 .1 .1 .0) (d .last .1 .1 .0) (d .result)
+    accepted (x .t .now) (x .cells .now) (x .scratch .now) ok (d .last .1 .1 .1 .1 .1 .0) (d .last .1 .1 .0)
+    (d .result)
     o (d .ensures .0) (d .ensures .1 .0) (d .ensures .1 .1 .0) (d .ensures .1 .1 .1)
 
 pub certify-checked-spec : {M : Type 1} → statement M

@@ -26,9 +26,11 @@ settle-requires c κs =
 run-rounds-requires : tie.Need-run-rounds-requires
 run-rounds-requires c κs =
     let x =
-    c .before .before .before .before .before .before .before .before .before .before .before .before .before .before .args in
+    c .before .before .before .before .before .before .before .before .before .before .before .before .before .before
+    .args in
     let p =
-    c .before .before .before .before .before .before .before .before .before .before .before .before .before .before .pre in
+    c .before .before .before .before .before .before .before .before .before .before .before .before .before .before
+    .pre in
     let first = c .before .before .before .before .before .before .before .before .before .write-initial .ensures in
     let settled = c .before .before .before .before .settle .ensures in
     let C = circuit (x .t .now) (x .n) in (
@@ -65,13 +67,17 @@ same-length-2 c = search needs
 returns : tie.Need-returns
 returns c =
     let x =
-    c .before .before .before .before .before .before .before .before .before .before .before .before .before .before .before .before .before .before .before .before .before .before .before .args in
+    c .before .before .before .before .before .before .before .before .before .before .before .before .before .before
+    .before .before .before .before .before .before .before .before .before .args in
     let p =
-    c .before .before .before .before .before .before .before .before .before .before .before .before .before .before .before .before .before .before .before .before .before .before .before .pre in
+    c .before .before .before .before .before .before .before .before .before .before .before .before .before .before
+    .before .before .before .before .before .before .before .before .before .pre in
     let first =
-    c .before .before .before .before .before .before .before .before .before .before .before .before .before .before .before .before .before .before .write-initial .ensures in
+    c .before .before .before .before .before .before .before .before .before .before .before .before .before .before
+    .before .before .before .before .write-initial .ensures in
     let settled =
-    c .before .before .before .before .before .before .before .before .before .before .before .before .before .settle .ensures in
+    c .before .before .before .before .before .before .before .before .before .before .before .before .before .settle
+    .ensures in
     let run = c .before .before .before .before .before .before .before .before .run-rounds .ensures in (
       run .1 .1 .1,
       (
@@ -80,7 +86,8 @@ returns c =
         (
           part-cleared (x .n) (x .n + x .n) (x .n * 4) (x .scratch .now) _ _ (run .0) (omega arith) (p .0 .3)
               (c .before .before .clear .ensures),
-          λ v h. store-load (c .before .before .before .before .before .before .before .before .run-rounds .last .1 .1 .1 .1 .1 .0) (x .n) v h ∙ run .1 .1 .0 v h,
+          λ v h. store-load (c .before .before .before .before .before .before .before .before .run-rounds .last .1 .1
+              .1 .1 .1 .0) (x .n) v h ∙ run .1 .1 .0 v h,
         ),
       ),
     )

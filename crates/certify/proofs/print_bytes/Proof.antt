@@ -19,11 +19,14 @@ enum-known-report : tie.Need-enum-known-report
 enum-known-report c = search needs
 
 array-share-prefix-certificate : tie.Need-array-share-prefix-certificate
-array-share-prefix-certificate c = rw (c .before .report .given .1) at (c .before .before .before .before .before .certify-bytes .ensures .1 .0)
+array-share-prefix-certificate c = rw (c .before .report .given .1) at
+    (c .before .before .before .before .before .certify-bytes .ensures .1 .0)
 
 slice-aggregate-print : tie.Need-slice-aggregate-print
 slice-aggregate-print c =
-    sym (length-take-le _ _ (rw (c .before .before .report .given .1) at (c .before .before .before .before .before .before .certify-bytes .ensures .1 .0)))
+    sym (length-take-le _ _
+    (rw (c .before .before .report .given .1) at
+    (c .before .before .before .before .before .before .certify-bytes .ensures .1 .0)))
 
 print-requires : tie.Need-print-requires
 print-requires c κs = search needs
@@ -32,10 +35,12 @@ enum-known-report-2 : tie.Need-enum-known-report-2
 enum-known-report-2 c = search needs
 
 sub-write-all : tie.Need-sub-write-all
-sub-write-all c = rw (c .before .report2 .given .1) at (c .before .before .before .before .before .certify-bytes .ensures .1 .0)
+sub-write-all c = rw (c .before .report2 .given .1) at
+    (c .before .before .before .before .before .certify-bytes .ensures .1 .0)
 
 part-write-all-start : tie.Need-part-write-all-start
-part-write-all-start c = rw (c .before .before .report2 .given .1) at (c .before .before .before .before .before .before .certify-bytes .ensures .1 .0)
+part-write-all-start c = rw (c .before .before .report2 .given .1) at
+    (c .before .before .before .before .before .before .certify-bytes .ensures .1 .0)
 
 part-write-all-end : tie.Need-part-write-all-end
 part-write-all-end c = c .before .before .before .before .before .before .certify-bytes .ensures .1 .1

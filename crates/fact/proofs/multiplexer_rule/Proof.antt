@@ -49,11 +49,23 @@ returns-2 c =
 
 returns-3 : tie.Need-returns-3
 returns-3 c =
-    rw (c .before .enum-told .given .1, ← c .before .before .before .before .narrow .ensures, ← c .before .before .before .narrow2 .ensures) (c .join .ensures)
+    rw (
+      c .before .enum-told .given .1,
+      ← c .before .before .before .before .narrow .ensures,
+      ←
+          c .before .before .before .narrow2 .ensures,
+    ) (c .join .ensures)
 
 returns-4 : tie.Need-returns-4
 returns-4 c =
-    rw (c .before .before .enum-told2 .given .1, ← c .before .before .before .before .before .narrow .ensures, ← c .before .before .before .before .narrow2 .ensures, ← c .before .join2 .ensures) (c .always-or-marked .ensures)
+    rw (
+      c .before .before .enum-told2 .given .1,
+      ← c .before .before .before .before .before .narrow .ensures,
+      ←
+          c .before .before .before .before .narrow2 .ensures,
+      ← c .before .join2 .ensures,
+    )
+    (c .always-or-marked .ensures)
 
 pub multiplexer-rule-spec : {M : Type 1} → statement M
 multiplexer-rule-spec =

@@ -37,7 +37,8 @@ returns c =
     let ran₂ = c .before .before .before .before in
     let ran₁ = ran₂ .before .before .before .before .before .before .before in
     let certifying = ran₁ .before .before .before .before .before .before .before in
-    let entry = certifying .before .before .before .before .before .before .before .before .before .before .before .before in
+    let entry = certifying .before .before .before .before .before .before .before .before .before .before .before
+    .before in
     let x = entry .args in
     let certified = certifying .certify in
     let first = ran₁ .bench in

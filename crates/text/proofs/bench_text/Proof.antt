@@ -13,7 +13,8 @@ bench-requires c κs = search needs
 put-benched-requires : tie.Need-put-benched-requires
 put-benched-requires c κs =
     let call = c .before .before .before .before .before .before .before .bench in
-    let x = c .before .before .before .before .before .before .before .before .before .before .before .before .before .before .args in (
+    let x = c .before .before .before .before .before .before .before .before .before .before .before .before .before
+    .before .args in (
       omega arith,
       benched-stands _ (call .kept .1 .1 .0) (call .kept .1 .1 .1 .0) (x .stimuli .now) (call .result)
           (call .ensures),

@@ -32,7 +32,8 @@ returns c =
         tells = put .ensures .0;
       },
       (
-        told-within (call .result) (put .result) _ _ _ _ 64 _ _ (omega arith) stands (put .ensures .0) (put .ensures .1),
+        told-within (call .result) (put .result) _ _ _ _ 64 _ _ (omega arith) stands (put .ensures .0)
+            (put .ensures .1),
         omega (arith, put .kept),
       ),
     )

@@ -17,7 +17,11 @@ enum-known-answer : tie.Need-enum-known-answer
 enum-known-answer c = search needs
 
 put-refused-requires : tie.Need-put-refused-requires
-put-refused-requires c κs = (c .before .before .before .before .before .before .before .pre .0, rw (c .before .before .answer .given .1) at (c .before .before .before .before .before .before .before .pre .1))
+put-refused-requires c κs = (
+  c .before .before .before .before .before .before .before .pre .0,
+  rw (c .before .before .answer .given .1) at
+      (c .before .before .before .before .before .before .before .pre .1),
+)
 
 same-length : tie.Need-same-length
 same-length c = search needs
@@ -29,7 +33,8 @@ same-length-2 : tie.Need-same-length-2
 same-length-2 c = search needs
 
 returns-2 : tie.Need-returns-2
-returns-2 c = rw (c .before .before .before .before .before .answer .given .1) (c .before .before .put-refused .ensures)
+returns-2 c = rw (c .before .before .before .before .before .answer .given .1)
+    (c .before .before .put-refused .ensures)
 
 pub put-benched-spec : {M : Type 1} → statement M
 put-benched-spec =

@@ -11,12 +11,14 @@ enum-known-answer c = search needs
 
 put-facts-requires : tie.Need-put-facts-requires
 put-facts-requires c κs =
-    let p = rw (c .before .before .answer .given .1) at (c .before .before .before .before .before .before .before .pre .1) in
+    let p = rw (c .before .before .answer .given .1) at
+    (c .before .before .before .before .before .before .before .pre .1) in
     (p .0, p .1, omega (arith, p .0), omega arith)
 
 put-rounds-requires : tie.Need-put-rounds-requires
 put-rounds-requires c κs =
-    let p = rw (c .before .before .before .before .before .before .answer .given .1) at (c .before .before .before .before .before .before .before .before .before .before .before .pre .1) in
+    let p = rw (c .before .before .before .before .before .before .answer .given .1) at
+    (c .before .before .before .before .before .before .before .before .before .before .before .pre .1) in
     let facts = c .before .before .before .put-facts .ensures in
     (omega (arith, p .0, facts .1), omega (arith, facts .0 .start, facts .0 .long))
 
@@ -24,21 +26,27 @@ enum-known-answer-2 : tie.Need-enum-known-answer-2
 enum-known-answer-2 c = search needs
 
 put-refused-requires : tie.Need-put-refused-requires
-put-refused-requires c κs =
-    (c .before .before .before .before .before .before .before .pre .0, rw (c .before .before .answer2 .given .1) at (c .before .before .before .before .before .before .before .pre .1))
+put-refused-requires c κs = (
+  c .before .before .before .before .before .before .before .pre .0,
+  rw (c .before .before .answer2 .given .1) at
+      (c .before .before .before .before .before .before .before .pre .1),
+)
 
 same-length : tie.Need-same-length
 same-length c = search needs
 
 returns : tie.Need-returns
 returns c =
-    rw (c .before .before .before .before .before .before .before .before .before .answer .given .1) (put-then (c .before .before .before .before .before .before .put-facts .ensures .0) (c .before .before .put-rounds .ensures))
+    rw (c .before .before .before .before .before .before .before .before .before .answer .given .1)
+    (put-then (c .before .before .before .before .before .before .put-facts .ensures .0)
+    (c .before .before .put-rounds .ensures))
 
 same-length-2 : tie.Need-same-length-2
 same-length-2 c = search needs
 
 returns-2 : tie.Need-returns-2
-returns-2 c = rw (c .before .before .before .before .before .answer2 .given .1) (c .before .before .put-refused .ensures)
+returns-2 c = rw (c .before .before .before .before .before .answer2 .given .1)
+    (c .before .before .put-refused .ensures)
 
 pub put-certified-spec : {M : Type 1} → statement M
 put-certified-spec =

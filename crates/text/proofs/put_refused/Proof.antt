@@ -13,12 +13,14 @@ ground-number-requires c κs = search needs
 
 put-loop-requires : tie.Need-put-loop-requires
 put-loop-requires c κs =
-    let p = c .before .before .before .before .before .pre .1 (omega (arith, c .before .before .ground-number .ensures)) in
+    let p = c .before .before .before .before .before .pre .1
+    (omega (arith, c .before .before .ground-number .ensures)) in
     (p .0, p .1, omega (arith, p .2), omega arith)
 
 put-refusal-requires : tie.Need-put-refusal-requires
 put-refusal-requires c κs =
-    let p = c .before .before .before .before .before .before .before .before .before .pre .1 (omega (arith, c .before .before .before .before .before .before .ground-number .ensures)) in
+    let p = c .before .before .before .before .before .before .before .before .before .pre .1
+    (omega (arith, c .before .before .before .before .before .before .ground-number .ensures)) in
     let row = c .before .before .before .put-loop .ensures in
     (omega (arith, p .2, row .1), omega (arith, row .0 .start, row .0 .long))
 
@@ -28,8 +30,14 @@ same-length c = search needs
 returns : tie.Need-returns
 returns c =
     let x = c .before .before .before .before .before .before .before .before .before .before .before .before .args in
-    put-as (sym (loop-text (x .ground) (x .place) (x .scratch .now) (omega (arith, c .before .before .before .before .before .before .before .before .before .ground-number .ensures))))
-    (put-then (c .before .before .before .before .before .before .put-loop .ensures .0) (c .before .before .put-refusal .ensures))
+    put-as (sym (loop-text (x .ground) (x .place) (x .scratch .now)
+    (omega (
+      arith,
+      c .before .before .before .before .before .before .before .before .before .ground-number
+          .ensures,
+    ))))
+    (put-then (c .before .before .before .before .before .before .put-loop .ensures .0)
+    (c .before .before .put-refusal .ensures))
 
 put-refusal-requires-2 : tie.Need-put-refusal-requires-2
 put-refusal-requires-2 c κs = search needs
@@ -41,7 +49,8 @@ returns-2 : tie.Need-returns-2
 returns-2 c =
     let x = c .before .before .before .before .before .before .before .before .args in
     put-as
-    (sym (other-text (x .ground) (x .place) (x .scratch .now) (λ e. omega (arith, c .before .before .before .before .before .ground-number .ensures))))
+    (sym (other-text (x .ground) (x .place) (x .scratch .now)
+    (λ e. omega (arith, c .before .before .before .before .before .ground-number .ensures))))
     (c .before .before .put-refusal2 .ensures)
 
 pub put-refused-spec : {M : Type 1} → statement M

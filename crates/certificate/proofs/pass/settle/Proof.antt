@@ -40,7 +40,8 @@ wire-fact-requires c κs =
     let x = c .before .before .before .before .before .before .before .before .args in
     let p = c .before .before .before .before .before .before .before .before .pre in
     let w =
-    wire-below (x .t .now) (x .n) (x .scratch .now) (x .wires) (c .before .before .before .before .loop .i) (c .before .wide .result)
+    wire-below (x .t .now) (x .n) (x .scratch .now) (x .wires) (c .before .before .before .before .loop .i)
+    (c .before .wide .result)
     (p .0 .2) (p .1 .1 .0) (c .before .before .before .loop-test .taken) (c .before .wide .ensures .0) in
     let is-wire =
     ordered-wire (x .t .now) (x .n) (x .scratch .now) (x .wires) (c .before .before .before .before .loop .i)
@@ -63,8 +64,10 @@ store-requires c κs =
     let x = c .before .before .before .before .before .before .before .before .before .before .args in
     let p = c .before .before .before .before .before .before .before .before .before .before .pre in
     let w =
-    wire-below (x .t .now) (x .n) (x .scratch .now) (x .wires) (c .before .before .before .before .before .before .loop .i) (c .before .before .before .wide .result)
-    (p .0 .2) (p .1 .1 .0) (c .before .before .before .before .before .loop-test .taken) (c .before .before .before .wide .ensures .0) in
+    wire-below (x .t .now) (x .n) (x .scratch .now) (x .wires)
+    (c .before .before .before .before .before .before .loop .i) (c .before .before .before .wide .result)
+    (p .0 .2) (p .1 .1 .0) (c .before .before .before .before .before .loop-test .taken)
+    (c .before .before .before .wide .ensures .0) in
     omega (
       arith,
       written-length (c .before .before .before .before .before .before .loop .inv .1 .written)
@@ -100,7 +103,8 @@ loop-again c =
     )
 
 same-length : tie.Need-same-length Inv-loop μ-loop
-same-length c = written-length (c .before .loop .inv .1 .written) (c .before .before .before .before .before .pre .0 .1)
+same-length c = written-length (c .before .loop .inv .1 .written)
+    (c .before .before .before .before .before .pre .0 .1)
 
 returns : tie.Need-returns Inv-loop μ-loop
 returns c =

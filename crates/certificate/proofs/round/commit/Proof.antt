@@ -85,14 +85,18 @@ loop-less c = omega arith
 loop-again : tie.Need-loop-again Inv-loop μ-loop
 loop-again c =
     let x =
-    c .before .before .before .before .before .before .before .before .before .before .before .before .before .before .args in
+    c .before .before .before .before .before .before .before .before .before .before .before .before .before .before
+    .args in
     let p =
-    c .before .before .before .before .before .before .before .before .before .before .before .before .before .before .pre in
+    c .before .before .before .before .before .before .before .before .before .before .before .before .before .before
+    .pre in
     let j = c .before .before .before .before .before .before .before .before .before .before .loop .j in
     let inv = c .before .before .before .before .before .before .before .before .before .before .loop .inv in
     let here =
-    listed-register (x .t .now) (x .n) (x .scratch .now) (x .first) j (c .before .before .before .before .before .before .before .wide .result)
-    (p .1 .1 .1 .0) (omega (arith, c .before .before .before .before .before .before .before .before .before .loop-test .taken))
+    listed-register (x .t .now) (x .n) (x .scratch .now) (x .first) j
+    (c .before .before .before .before .before .before .before .wide .result)
+    (p .1 .1 .1 .0) (omega
+    (arith, c .before .before .before .before .before .before .before .before .before .loop-test .taken))
     (c .before .before .before .before .before .before .before .wide .ensures .0) in
     let C = circuit (x .t .now) (x .n) in
     let s = storeOf (x .cells .now) (x .n) in
@@ -111,11 +115,13 @@ loop-again c =
           (one-committed C (x .n) (circuit-length (x .t .now) (x .n)) (x .cells .now)
           (c .before .before .before .before .before .before .before .before .before .before .loop .cells) j
           (inv .1) v f
-          (omega (arith, c .before .before .before .before .before .before .before .before .before .loop-test .taken)) (here .0) is (c .before .before .store .ensures .1)),
+          (omega (arith, c .before .before .before .before .before .before .before .before .before .loop-test .taken))
+          (here .0) is (c .before .before .store .ensures .1)),
     )
 
 same-length : tie.Need-same-length Inv-loop μ-loop
-same-length c = written-length (c .before .loop .inv .1 .written) (c .before .before .before .before .before .pre .0 .1)
+same-length c = written-length (c .before .loop .inv .1 .written)
+    (c .before .before .before .before .before .pre .0 .1)
 
 returns : tie.Need-returns Inv-loop μ-loop
 returns c =

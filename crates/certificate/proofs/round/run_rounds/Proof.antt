@@ -37,39 +37,49 @@ commit-requires c κs =
 settle-requires : tie.Need-settle-requires Inv-loop μ-loop
 settle-requires c κs =
     let r₀ =
-    c .before .before .before .before .before .before .before .before .before .before .before .before .before .loop .inv .ready in
+    c .before .before .before .before .before .before .before .before .before .before .before .before .before .loop
+    .inv .ready in
     let r₁ =
-    ready-kept r₀ (c .before .before .before .before .before .before .before .before .before .before .stage .ensures .0) (r₀ .written) in
+    ready-kept r₀ (c .before .before .before .before .before .before .before .before .before .before .stage .ensures
+    .0) (r₀ .written) in
     let r = ready-kept r₁ (outside-none _ _ _) (c .before .before .before .before .commit .ensures .0) in
     ((r .table, r .output, omega (arith, r .room, r .fits)), (r .valid, (r .order, r .written)))
 
 add-count : tie.Need-add-count Inv-loop μ-loop
 add-count c =
     let inv =
-    c .before .before .before .before .before .before .before .before .before .before .before .before .before .before .before .before .loop .inv in
+    c .before .before .before .before .before .before .before .before .before .before .before .before .before .before
+    .before .before .loop .inv in
     omega (
       arith,
       rounds-small (inv .ready),
       still-running inv _
-          (c .before .before .before .before .before .before .before .before .before .before .before .before .before .stage .ensures .1 .1) (c .before .before .before .before .before .before .before .before .before .before .if1 .left),
+          (c .before .before .before .before .before .before .before .before .before .before .before .before .before
+          .stage .ensures .1 .1)
+          (c .before .before .before .before .before .before .before .before .before .before .if1 .left),
     )
 
 loop-less : tie.Need-loop-less Inv-loop μ-loop
 loop-less c =
     let inv =
-    c .before .before .before .before .before .before .before .before .before .before .before .before .before .before .before .before .loop .inv in
+    c .before .before .before .before .before .before .before .before .before .before .before .before .before .before
+    .before .before .loop .inv in
     omega (
       arith,
       still-running inv _
-          (c .before .before .before .before .before .before .before .before .before .before .before .before .before .stage .ensures .1 .1) (c .before .before .before .before .before .before .before .before .before .before .if1 .left),
+          (c .before .before .before .before .before .before .before .before .before .before .before .before .before
+          .stage .ensures .1 .1)
+          (c .before .before .before .before .before .before .before .before .before .before .if1 .left),
     )
 
 loop-again : tie.Need-loop-again Inv-loop μ-loop
 loop-again c =
     let inv =
-    c .before .before .before .before .before .before .before .before .before .before .before .before .before .before .before .before .loop .inv in
+    c .before .before .before .before .before .before .before .before .before .before .before .before .before .before
+    .before .before .loop .inv in
     let stage =
-    c .before .before .before .before .before .before .before .before .before .before .before .before .before .stage .ensures in
+    c .before .before .before .before .before .before .before .before .before .before .before .before .before .stage
+    .ensures in
     let commit = c .before .before .before .before .before .before .before .commit .ensures in
     let settle = c .before .before .settle .ensures in
     run-next inv (stage .0) (commit .0) (settle .0)
@@ -79,7 +89,8 @@ loop-again c =
 
 same-length : tie.Need-same-length Inv-loop μ-loop
 same-length c =
-    c .before .before .before .stage .ensures .0 .long ∙ c .before .before .before .before .before .before .loop .inv .kept .long
+    c .before .before .before .stage .ensures .0 .long ∙
+    c .before .before .before .before .before .before .loop .inv .kept .long
 
 same-length-2 : tie.Need-same-length-2 Inv-loop μ-loop
 same-length-2 c =

@@ -84,7 +84,8 @@ load-requires c κs =
     listed-register (x .t .now) (x .n) (c .before .before .before .before .before .before .loop .scratch) (x .first) j
     (c .before .before .before .wide .result)
     (listed-kept (circuit (x .t .now) (x .n)) (inv .1 .kept) (x .first) (omega arith) (p .1 .1 .1 .1))
-    (omega (arith, c .before .before .before .before .before .loop-test .taken)) (c .before .before .before .wide .ensures .0) in
+    (omega (arith, c .before .before .before .before .before .loop-test .taken))
+    (c .before .before .before .wide .ensures .0) in
     omega (arith, here .1)
 
 differs-requires : tie.Need-differs-requires Inv-loop μ-loop
@@ -108,10 +109,12 @@ loop-again c =
     let j = c .before .before .before .before .before .before .before .before .before .loop .j in
     let inv = c .before .before .before .before .before .before .before .before .before .loop .inv in
     let here =
-    listed-register (x .t .now) (x .n) (c .before .before .before .before .before .before .before .before .before .loop .scratch) (x .first) j
+    listed-register (x .t .now) (x .n)
+    (c .before .before .before .before .before .before .before .before .before .loop .scratch) (x .first) j
     (c .before .before .before .before .before .before .wide .result)
     (listed-kept (circuit (x .t .now) (x .n)) (inv .1 .kept) (x .first) (omega arith) (p .1 .1 .1 .1))
-    (omega (arith, c .before .before .before .before .before .before .before .before .loop-test .taken)) (c .before .before .before .before .before .before .wide .ensures .0) in
+    (omega (arith, c .before .before .before .before .before .before .before .before .loop-test .taken))
+    (c .before .before .before .before .before .before .wide .ensures .0) in
     let C = circuit (x .t .now) (x .n) in
     let s = storeOf (x .cells .now) (x .n) in
     let fact : c .before .before .before .before .before .register-fact .result ≡ rule C s
@@ -124,9 +127,12 @@ loop-again c =
       one-staged C s (x .n) (x .scratch .now)
           (c .before .before .before .before .before .before .before .before .before .loop .scratch) j
           (c .before .before .before .wide16 .result) (inv .1) (omega arith) (p .1 .0 .0)
-          (c .before .before .before .wide16 .ensures .0 ∙ c .before .before .before .before .byte .ensures ∙ ap factByte fact),
+          (c .before .before .before .wide16 .ensures .0 ∙ c .before .before .before .before .byte .ensures ∙ ap
+          factByte fact),
       c .either .ensures
-          ∙ ap (λ (d : Bool). d || c .before .before .before .before .before .before .before .before .before .loop .changed) (c .before .differs .ensures ∙ ap₂ (λ (f g : Fact). not (same f g)) fact old)
+          ∙ ap (λ (d : Bool). d ||
+          c .before .before .before .before .before .before .before .before .before .loop .changed)
+          (c .before .differs .ensures ∙ ap₂ (λ (f g : Fact). not (same f g)) fact old)
           ∙ changes-more C s j
           (c .before .before .before .before .before .before .before .before .before .loop .changed) (inv .2),
     )

@@ -27,7 +27,8 @@ enum-told-2 c = search needs
 
 returns : tie.Need-returns
 returns c =
-    c .enum-told2 .given .1 ∙ check-stops _ _ _ _ _ (c .before .before .check-length .ensures) (c .enum-told2 .given .1)
+    c .enum-told2 .given .1 ∙ check-stops _ _ _ _ _ (c .before .before .check-length .ensures)
+    (c .enum-told2 .given .1)
 
 mul-check-output : tie.Need-mul-check-output
 mul-check-output c =
@@ -59,7 +60,8 @@ mul-check-scratch c =
     let b = c .before .before .before .before .before in
     record {
       fits =
-          few-each _ _ (length-most _ (sym (b .check-length .ensures) ∙ c .before .before .before .enum-told .given .1))
+          few-each _ _ (length-most _
+          (sym (b .check-length .ensures) ∙ c .before .before .before .enum-told .given .1))
           (b .before .before .pre .1);
     }
 

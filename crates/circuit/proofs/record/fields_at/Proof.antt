@@ -57,7 +57,13 @@ u32-at-requires c κs = search needs
 
 returns : tie.Need-returns
 returns c =
-    simp (c .before .before .before .before .u16-at .ensures, c .before .before .before .u16-at2 .ensures, c .before .before .u16-at3 .ensures, c .before .u16-at4 .ensures, c .u32-at .ensures)
+    simp (
+      c .before .before .before .before .u16-at .ensures,
+      c .before .before .before .u16-at2 .ensures,
+      c .before .before .u16-at3 .ensures,
+      c .before .u16-at4 .ensures,
+      c .u32-at .ensures,
+    )
 
 pub fields-at-spec : {M : Type 1} → statement M
 fields-at-spec =

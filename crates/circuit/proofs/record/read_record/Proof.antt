@@ -60,7 +60,8 @@ returns-3 c =
     let n = c .before .before .before .before .before .before .before .before .args .n in
     let kind =
     kind-is (f .kind) _ (sym
-    (c .before .before .before .before .before .before .before .read-kind .ensures) ∙ c .before .before .before .before .before .kind .given .1) in
+    (c .before .before .before .before .before .before .before .read-kind .ensures) ∙
+    c .before .before .before .before .before .kind .given .1) in
     let width = sym (c .before .before .before .bad-width .ensures) ∙ c .before .before .if1 .left in
     let code =
     ap (λ k. leb (codes k) (f .code)) (sym (kind .1)) ∙ sym (c .before .unknown-code .ensures) ∙ c .if2 .taken in
@@ -79,9 +80,11 @@ returns-4 c =
     let n = c .before .before .before .before .before .before .before .before .before .before .before .args .n in
     let kind =
     kind-is (f .kind) _ (sym
-    (c .before .before .before .before .before .before .before .before .before .before .read-kind .ensures) ∙ c .before .before .before .before .before .before .before .before .kind .given .1) in
+    (c .before .before .before .before .before .before .before .before .before .before .read-kind .ensures) ∙
+    c .before .before .before .before .before .before .before .before .kind .given .1) in
     let width =
-    sym (c .before .before .before .before .before .before .bad-width .ensures) ∙ c .before .before .before .before .before .if1 .left in
+    sym (c .before .before .before .before .before .before .bad-width .ensures) ∙
+    c .before .before .before .before .before .if1 .left in
     let code =
     ap (λ k. leb (codes k) (f .code)) (sym (kind .1)) ∙ sym
     (c .before .before .before .before .unknown-code .ensures) ∙ c .before .before .before .if2 .left in
@@ -97,17 +100,23 @@ returns-5 : tie.Need-returns-5
 unfolding zero-test below-test
 returns-5 c =
     let f =
-    c .before .before .before .before .before .before .before .before .before .before .before .before .before .args .f in
+    c .before .before .before .before .before .before .before .before .before .before .before .before .before .args .f
+    in
     let n =
-    c .before .before .before .before .before .before .before .before .before .before .before .before .before .args .n in
+    c .before .before .before .before .before .before .before .before .before .before .before .before .before .args .n
+    in
     let kind =
     kind-is (f .kind) _ (sym
-    (c .before .before .before .before .before .before .before .before .before .before .before .before .read-kind .ensures) ∙ c .before .before .before .before .before .before .before .before .before .before .kind .given .1) in
+    (c .before .before .before .before .before .before .before .before .before .before .before .before .read-kind
+    .ensures) ∙ c .before .before .before .before .before .before .before .before .before .before .kind .given .1)
+    in
     let width =
-    sym (c .before .before .before .before .before .before .before .before .bad-width .ensures) ∙ c .before .before .before .before .before .before .before .if1 .left in
+    sym (c .before .before .before .before .before .before .before .before .bad-width .ensures) ∙
+    c .before .before .before .before .before .before .before .if1 .left in
     let code =
     ap (λ k. leb (codes k) (f .code)) (sym (kind .1)) ∙ sym
-    (c .before .before .before .before .before .before .unknown-code .ensures) ∙ c .before .before .before .before .before .if2 .left in
+    (c .before .before .before .before .before .before .unknown-code .ensures) ∙
+    c .before .before .before .before .before .if2 .left in
     let zeros =
     ap (zero-test f) (sym (c .before .before .before .before .decode .ensures)) ∙ sym
     (c .before .before .before .unused-zero .ensures) ∙ not-false _ (c .before .before .if3 .left) in
@@ -118,23 +127,33 @@ returns-5 c =
 
 too-wide-requires : tie.Need-too-wide-requires
 too-wide-requires c κs =
-    width-most (c .before .before .before .before .before .before .before .before .before .before .before .before .before .args .f .width) (sym (c .before .before .before .before .before .before .before .before .bad-width .ensures) ∙ c .before .before .before .before .before .before .before .if1 .left)
+    width-most (c .before .before .before .before .before .before .before .before .before .before .before .before
+    .before .args .f .width)
+    (sym (c .before .before .before .before .before .before .before .before .bad-width .ensures) ∙
+    c .before .before .before .before .before .before .before .if1 .left)
 
 returns-6 : tie.Need-returns-6
 unfolding zero-test below-test
 returns-6 c =
     let f =
-    c .before .before .before .before .before .before .before .before .before .before .before .before .before .before .before .args .f in
+    c .before .before .before .before .before .before .before .before .before .before .before .before .before .before
+    .before .args .f in
     let n =
-    c .before .before .before .before .before .before .before .before .before .before .before .before .before .before .before .args .n in
+    c .before .before .before .before .before .before .before .before .before .before .before .before .before .before
+    .before .args .n in
     let kind =
     kind-is (f .kind) _ (sym
-    (c .before .before .before .before .before .before .before .before .before .before .before .before .before .before .read-kind .ensures) ∙ c .before .before .before .before .before .before .before .before .before .before .before .before .kind .given .1) in
+    (c .before .before .before .before .before .before .before .before .before .before .before .before .before .before
+    .read-kind .ensures) ∙
+    c .before .before .before .before .before .before .before .before .before .before .before .before .kind .given
+    .1) in
     let width =
-    sym (c .before .before .before .before .before .before .before .before .before .before .bad-width .ensures) ∙ c .before .before .before .before .before .before .before .before .before .if1 .left in
+    sym (c .before .before .before .before .before .before .before .before .before .before .bad-width .ensures) ∙
+    c .before .before .before .before .before .before .before .before .before .if1 .left in
     let code =
     ap (λ k. leb (codes k) (f .code)) (sym (kind .1)) ∙ sym
-    (c .before .before .before .before .before .before .before .before .unknown-code .ensures) ∙ c .before .before .before .before .before .before .before .if2 .left in
+    (c .before .before .before .before .before .before .before .before .unknown-code .ensures) ∙
+    c .before .before .before .before .before .before .before .if2 .left in
     let zeros =
     ap (zero-test f) (sym (c .before .before .before .before .before .before .decode .ensures)) ∙ sym
     (c .before .before .before .before .before .unused-zero .ensures) ∙ not-false _
@@ -149,17 +168,24 @@ returns-7 : tie.Need-returns-7
 unfolding zero-test below-test
 returns-7 c =
     let f =
-    c .before .before .before .before .before .before .before .before .before .before .before .before .before .before .before .args .f in
+    c .before .before .before .before .before .before .before .before .before .before .before .before .before .before
+    .before .args .f in
     let n =
-    c .before .before .before .before .before .before .before .before .before .before .before .before .before .before .before .args .n in
+    c .before .before .before .before .before .before .before .before .before .before .before .before .before .before
+    .before .args .n in
     let kind =
     kind-is (f .kind) _ (sym
-    (c .before .before .before .before .before .before .before .before .before .before .before .before .before .before .read-kind .ensures) ∙ c .before .before .before .before .before .before .before .before .before .before .before .before .kind .given .1) in
+    (c .before .before .before .before .before .before .before .before .before .before .before .before .before .before
+    .read-kind .ensures) ∙
+    c .before .before .before .before .before .before .before .before .before .before .before .before .kind .given
+    .1) in
     let width =
-    sym (c .before .before .before .before .before .before .before .before .before .before .bad-width .ensures) ∙ c .before .before .before .before .before .before .before .before .before .if1 .left in
+    sym (c .before .before .before .before .before .before .before .before .before .before .bad-width .ensures) ∙
+    c .before .before .before .before .before .before .before .before .before .if1 .left in
     let code =
     ap (λ k. leb (codes k) (f .code)) (sym (kind .1)) ∙ sym
-    (c .before .before .before .before .before .before .before .before .unknown-code .ensures) ∙ c .before .before .before .before .before .before .before .if2 .left in
+    (c .before .before .before .before .before .before .before .before .unknown-code .ensures) ∙
+    c .before .before .before .before .before .before .before .if2 .left in
     let zeros =
     ap (zero-test f) (sym (c .before .before .before .before .before .before .decode .ensures)) ∙ sym
     (c .before .before .before .before .before .unused-zero .ensures) ∙ not-false _

@@ -18,7 +18,8 @@ enum-known-kind c = search needs
 returns-2 : tie.Need-returns-2
 returns-2 c =
     let fits =
-    sym (c .before .before .before .before .before .too-wide .ensures) ∙ c .before .before .before .before .if1 .left in
+    sym (c .before .before .before .before .before .too-wide .ensures) ∙ c .before .before .before .before .if1 .left
+    in
     rw (fits, c .before .before .kind .given .1, ne-eqb _ _ (c .if2 .taken))
 
 enum-told : tie.Need-enum-told
@@ -30,7 +31,8 @@ enum-told-2 c = search needs
 returns-3 : tie.Need-returns-3
 returns-3 c =
     let fits =
-    sym (c .before .before .before .before .before .too-wide .ensures) ∙ c .before .before .before .before .if1 .left in
+    sym (c .before .before .before .before .before .too-wide .ensures) ∙ c .before .before .before .before .if1 .left
+    in
     rw (fits, c .before .before .kind .given .1, eq-eqb _ _ (c .if2 .left))
 
 returns-4 : tie.Need-returns-4

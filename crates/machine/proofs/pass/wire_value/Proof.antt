@@ -58,11 +58,16 @@ b-at-requires : tie.Need-b-at-requires
 b-at-requires c κs = search needs
 
 mul-evaluate-2 : tie.Need-mul-evaluate-2
-mul-evaluate-2 c = omega (arith, operator (c .before .before .before .before .before .before .before) .b-below, c .b-at .ensures)
+mul-evaluate-2 c = omega
+    (arith, operator (c .before .before .before .before .before .before .before) .b-below, c .b-at .ensures)
 
 shared-slice-read-evaluate-2 : tie.Need-shared-slice-read-evaluate-2
 shared-slice-read-evaluate-2 c =
-    omega (arith, operator (c .before .before .before .before .before .before .before .before) .b-below, c .before .b-at .ensures)
+    omega (
+      arith,
+      operator (c .before .before .before .before .before .before .before .before) .b-below,
+      c .before .b-at .ensures,
+    )
 
 evaluate-requires : tie.Need-evaluate-requires
 evaluate-requires c κs =

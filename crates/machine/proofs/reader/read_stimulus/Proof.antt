@@ -188,7 +188,8 @@ module _ {M : Type 1} (𝓤 : URA M) (H : Heap 𝓤) (A : Atoms 𝓤) (W : Given
         params1 ! $
         pass1 ! (init ! 8 refl (shr-slice-lawful 𝓤 H A W (named 0) κ u8 .typed s (v ∷ []) p .0)) $
         pass1 ! (init ! 6 refl (tt, record { fits = ok })) $ pass0 ! $
-        move ! (12 ∷ []) $ use1 W (raw (ReaderAt 𝓤 H A at-mem run .pre to-reader-at) ⊛ ‵ Own) goes-reader-at $ split ! $
+        move ! (12 ∷ []) $ use1 W (raw (ReaderAt 𝓤 H A at-mem run .pre to-reader-at) ⊛ ‵ Own) goes-reader-at $ split !
+        $
         calls-at ! fm (ReaderAt 𝓤 H A at-mem run) known-reader-at to-reader-at
         (and-then ! (load ! (from ! (stop !)) (look ! 10 refl))
         (and-then ! (load ! (from ! (stop !)) (look ! 8 refl)) (no-more !))) (λ u.

@@ -18,14 +18,16 @@ enum-told c = search needs
 returns : tie.Need-returns
 returns c =
     let x = c .before .before .before .before .before .args in
-    read-told (badStimulus (x .s .now) (x .at)) (stimulusAt (x .s .now) (x .at)) (c .before .before .before .before .before .pre .1)
+    read-told (badStimulus (x .s .now) (x .at)) (stimulusAt (x .s .now) (x .at))
+    (c .before .before .before .before .before .pre .1)
     (c .before .before .before .read-stimulus .ensures) (c .before .read .given .1)
 
 returns-2 : tie.Need-returns-2
 returns-2 c =
     let x = c .before .before .before .before .args in
     absurd
-    (not-refused (badStimulus (x .s .now) (x .at)) (stimulusAt (x .s .now) (x .at)) (c .before .before .before .before .pre .1)
+    (not-refused (badStimulus (x .s .now) (x .at)) (stimulusAt (x .s .now) (x .at))
+    (c .before .before .before .before .pre .1)
     (c .before .before .read-stimulus .ensures) (c .enum-told .given .1))
 
 pub stimulus-at-spec : {M : Type 1} → statement M

@@ -75,7 +75,8 @@ store-requires c κs =
 
 add-j : tie.Need-add-j Inv-loop μ-loop
 add-j c =
-    let r = c .before .before .before .before .before .before .before .before .before .before .before .before .pre .0 in
+    let r = c .before .before .before .before .before .before .before .before .before .before .before .before .pre .0
+    in
     omega (arith, r .fits, r .small)
 
 loop-less : tie.Need-loop-less Inv-loop μ-loop
@@ -84,7 +85,8 @@ loop-less c = omega arith
 loop-again : tie.Need-loop-again Inv-loop μ-loop
 loop-again c =
     let x = c .before .before .before .before .before .before .before .before .before .before .before .before .args in
-    let r = c .before .before .before .before .before .before .before .before .before .before .before .before .pre .0 in
+    let r = c .before .before .before .before .before .before .before .before .before .before .before .before .pre .0
+    in
     let C = circuit (x .t .now) (x .n) in
     let here =
     listed-register (x .t .now) (x .n)

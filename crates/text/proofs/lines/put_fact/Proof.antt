@@ -14,13 +14,21 @@ cast-put-number : tie.Need-cast-put-number
 cast-put-number c = search needs
 
 put-number-requires : tie.Need-put-number-requires
-put-number-requires c κs = (omega (arith, decimal-short 9 (c .before .before .f .given .0 .0) (omega arith)), omega arith)
+put-number-requires c κs =
+    (omega (arith, decimal-short 9 (c .before .before .f .given .0 .0) (omega arith)), omega arith)
 
 slice-aggregate-put-word : tie.Need-slice-aggregate-put-word
 slice-aggregate-put-word c = search needs
 
 put-word-requires : tie.Need-put-word-requires
-put-word-requires c κs = (omega (arith, decimal-short 9 (c .before .before .before .before .before .before .before .f .given .0 .0) (omega arith)), omega arith)
+put-word-requires c κs = (
+  omega (
+    arith,
+    decimal-short 9 (c .before .before .before .before .before .before .before .f .given .0 .0)
+        (omega arith),
+  ),
+  omega arith,
+)
 
 enum-told : tie.Need-enum-told
 enum-told c = search needs
@@ -55,13 +63,15 @@ same-length-2 : tie.Need-same-length-2
 same-length-2 c = search needs
 
 returns-2 : tie.Need-returns-2
-returns-2 c = rw (c .before .before .before .before .before .enum-told .given .1) (c .before .before .put-word2 .ensures, omega (arith, c .before .before .put-word2 .ensures .start))
+returns-2 c = rw (c .before .before .before .before .before .enum-told .given .1)
+    (c .before .before .put-word2 .ensures, omega (arith, c .before .before .put-word2 .ensures .start))
 
 same-length-3 : tie.Need-same-length-3
 same-length-3 c = search needs
 
 returns-3 : tie.Need-returns-3
-returns-3 c = rw (c .before .before .before .before .before .enum-told2 .given .1) (c .before .before .put-word3 .ensures, omega (arith, c .before .before .put-word3 .ensures .start))
+returns-3 c = rw (c .before .before .before .before .before .enum-told2 .given .1)
+    (c .before .before .put-word3 .ensures, omega (arith, c .before .before .put-word3 .ensures .start))
 
 pub put-fact-spec : {M : Type 1} → statement M
 put-fact-spec =

@@ -14,7 +14,15 @@ put-fact-requires : tie.Need-put-fact-requires
 put-fact-requires c κs = search needs
 
 put-number-requires : tie.Need-put-number-requires
-put-number-requires c κs = (omega (arith, decimal-short 3 (c .before .before .before .before .before .before .before .before .before .before .args .v) (omega arith)), omega arith)
+put-number-requires c κs = (
+  omega (
+    arith,
+    decimal-short 3
+        (c .before .before .before .before .before .before .before .before .before .before .args .v) (omega arith),
+  ),
+  omega
+      arith,
+)
 
 same-length : tie.Need-same-length
 same-length c = search needs
@@ -23,8 +31,16 @@ returns : tie.Need-returns
 returns c =
     let number = c .before .before .put-number .ensures in
     let fact = c .before .before .before .before .before .before .put-fact .ensures in (
-      put-then (put-then (c .before .before .before .before .before .before .before .before .before .before .put-byte .ensures) (fact .0)) number,
-      omega (arith, decimal-short 3 (c .before .before .before .before .before .before .before .before .before .before .before .before .before .args .v) (omega arith), number .start, fact .1),
+      put-then (put-then (c .before .before .before .before .before .before .before .before .before .before .put-byte
+          .ensures) (fact .0)) number,
+      omega (
+        arith,
+        decimal-short 3
+            (c .before .before .before .before .before .before .before .before .before .before .before .before .before
+            .args .v) (omega arith),
+        number .start,
+        fact .1,
+      ),
     )
 
 pub put-fact-line-spec : {M : Type 1} → statement M

@@ -57,8 +57,11 @@ same-length c = c .before .loop .inv .1 .long
 returns : tie.Need-returns Inv-loop μ-loop
 returns c =
     let x = c .before .before .before .before .args in
-    let l = c .before .loop in
-    (all-pieces (line (x .certificate .now)) (x .n) (l .v) 0 (x .n) (omega arith) (omega arith) (l .inv .1), omega arith)
+    let l = c .before .loop in (
+      all-pieces (line (x .certificate .now)) (x .n) (l .v) 0 (x .n) (omega arith) (omega arith) (l .inv .1),
+      omega
+          arith,
+    )
 
 pub put-facts-spec : {M : Type 1} → statement M
 put-facts-spec =

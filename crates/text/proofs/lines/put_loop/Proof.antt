@@ -33,13 +33,15 @@ same-length c = search needs
 
 returns : tie.Need-returns
 returns c =
-    let x = c .before .before .before .before .before .before .before .before .before .before .before .before .before .before .before .before .args in
+    let x = c .before .before .before .before .before .before .before .before .before .before .before .before .before
+    .before .before .before .args in
     let number = c .before .before .put-number .ensures in
     let rest = c .before .before .before .before .before .before .before .before .put-spaced .ensures in (
       put-as
           (ap (λ (k : ℕ). decimal k ++ (pieces (spaced (x .scratch .now)) (x .size - 1) 1 ++ newline))
           (c .before .before .before .wide .ensures .0))
-          (put-then (put-then (c .before .before .before .before .before .before .before .before .before .before .before .before .put-byte .ensures) (rest .0)) number),
+          (put-then (put-then (c .before .before .before .before .before .before .before .before .before .before
+          .before .before .put-byte .ensures) (rest .0)) number),
       omega (arith, decimal-short 4 (c .before .before .before .wide .result) (omega arith), number .start, rest .1),
     )
 

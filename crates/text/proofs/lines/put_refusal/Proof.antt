@@ -15,20 +15,32 @@ put-byte-requires : tie.Need-put-byte-requires
 put-byte-requires c κs = search needs
 
 put-number-requires : tie.Need-put-number-requires
-put-number-requires c κs = (omega (arith, decimal-short 19 (c .before .before .before .before .before .before .args .place) (omega arith)), omega arith)
+put-number-requires c κs = (
+  omega (arith, decimal-short 19 (c .before .before .before .before .before .before .args .place) (omega arith)),
+  omega arith,
+)
 
 slice-aggregate-put-word : tie.Need-slice-aggregate-put-word
 slice-aggregate-put-word c = search needs
 
 put-word-requires : tie.Need-put-word-requires
-put-word-requires c κs = (omega (arith, decimal-short 19 (c .before .before .before .before .before .before .before .before .before .before .before .args .place) (omega arith)), omega arith)
+put-word-requires c κs = (
+  omega (
+    arith,
+    decimal-short 19
+        (c .before .before .before .before .before .before .before .before .before .before .before .args .place)
+        (omega arith),
+  ),
+  omega arith,
+)
 
 ground-number-requires : tie.Need-ground-number-requires
 ground-number-requires c κs = search needs
 
 put-number-requires-2 : tie.Need-put-number-requires-2
 put-number-requires-2 c κs =
-    let place = c .before .before .before .before .before .before .before .before .before .before .before .before .before .before .before .before .args .place in (
+    let place = c .before .before .before .before .before .before .before .before .before .before .before .before
+    .before .before .before .before .args .place in (
       omega (
         arith,
         decimal-short 19 place (omega arith),
@@ -43,7 +55,8 @@ slice-aggregate-put-word-2 c = search needs
 
 put-word-requires-2 : tie.Need-put-word-requires-2
 put-word-requires-2 c κs =
-    let place = c .before .before .before .before .before .before .before .before .before .before .before .before .before .before .before .before .before .before .before .before .before .args .place in
+    let place = c .before .before .before .before .before .before .before .before .before .before .before .before
+    .before .before .before .before .before .before .before .before .before .args .place in
     let number = c .before .before .before .before .before .ground-number in (
       omega (
         arith,
@@ -60,12 +73,20 @@ same-length c = search needs
 returns : tie.Need-returns
 returns c =
     let number = c .before .before .before .before .before .before .before .before .ground-number in
-    put-as (ap (λ (k : ℕ). (refused ++ (decimal k ++ (at ++ (decimal (c .before .before .before .before .before .before .before .before .before .before .before .before .before .before .before .before .before .before .before .before .before .before .before .before .args .place) ++ newline))))) (number .ensures))
+    put-as (ap (λ (k : ℕ).
+    (refused ++ (decimal k ++
+    (at ++ (decimal (c .before .before .before .before .before .before .before .before .before .before .before
+    .before .before .before .before .before .before .before .before .before .before .before .before .before .args
+    .place) ++ newline))))) (number .ensures))
     (put-then
     (put-then
     (put-then
-    (put-then (c .before .before .before .before .before .before .before .before .before .before .before .before .before .before .before .before .before .before .before .before .before .put-byte .ensures) (c .before .before .before .before .before .before .before .before .before .before .before .before .before .before .before .before .before .put-number .ensures))
-    (c .before .before .before .before .before .before .before .before .before .before .before .before .put-word .ensures))
+    (put-then (c .before .before .before .before .before .before .before .before .before .before .before .before
+    .before .before .before .before .before .before .before .before .before .put-byte .ensures)
+    (c .before .before .before .before .before .before .before .before .before .before .before .before .before
+    .before .before .before .before .put-number .ensures))
+    (c .before .before .before .before .before .before .before .before .before .before .before .before .put-word
+    .ensures))
     (c .before .before .before .before .before .before .before .put-number2 .ensures))
     (c .before .before .put-word2 .ensures))
 

@@ -42,14 +42,16 @@ put-number-requires : tie.Need-put-number-requires Inv-loop μ-loop
 put-number-requires c κs = (omega (arith, decimal-short 4 (c .wide .result) (omega arith)), omega arith)
 
 put-byte-requires : tie.Need-put-byte-requires Inv-loop μ-loop
-put-byte-requires c κs = (omega (arith, decimal-short 4 (c .before .before .before .before .wide .result) (omega arith)), omega arith)
+put-byte-requires c κs =
+    (omega (arith, decimal-short 4 (c .before .before .before .before .wide .result) (omega arith)), omega arith)
 
 loop-less : tie.Need-loop-less Inv-loop μ-loop
 loop-less c = omega arith
 
 loop-again : tie.Need-loop-again Inv-loop μ-loop
 loop-again c =
-    let x = c .before .before .before .before .before .before .before .before .before .before .before .before .before .before .args in
+    let x = c .before .before .before .before .before .before .before .before .before .before .before .before .before
+    .before .args in
     let l = c .before .before .before .before .before .before .before .before .before .before .before .loop in
     let number = c .before .before .before .before .before .before .put-number .ensures in
     let between = c .before .before .put-byte .ensures in
@@ -58,7 +60,13 @@ loop-again c =
       omega arith,
       one-more (spaced (x .scratch .now)) (x .size) (l .i) (omega arith) (l .inv .1) (l .inv .2)
           (put-as (ap (λ (k : ℕ). space ++ decimal k) (is .0)) (put-then number between)),
-      omega (arith, decimal-short 4 (c .before .before .before .before .before .before .before .wide .result) (omega arith), number .start, between .start),
+      omega (
+        arith,
+        decimal-short 4 (c .before .before .before .before .before .before .before .wide .result)
+            (omega arith),
+        number .start,
+        between .start,
+      ),
     )
 
 same-length : tie.Need-same-length Inv-loop μ-loop
@@ -67,8 +75,10 @@ same-length c = c .before .loop .inv .2 .long
 returns : tie.Need-returns Inv-loop μ-loop
 returns c =
     let x = c .before .before .before .before .args in
-    let l = c .before .loop in
-    (all-pieces (spaced (x .scratch .now)) (x .size) (l .i) 1 (x .size - 1) (omega arith) (omega arith) (l .inv .2), omega arith)
+    let l = c .before .loop in (
+      all-pieces (spaced (x .scratch .now)) (x .size) (l .i) 1 (x .size - 1) (omega arith) (omega arith) (l .inv .2),
+      omega arith,
+    )
 
 pub put-spaced-spec : {M : Type 1} → statement M
 put-spaced-spec =

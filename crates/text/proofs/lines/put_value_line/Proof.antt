@@ -11,14 +11,27 @@ put-byte-requires : tie.Need-put-byte-requires
 put-byte-requires c κs = search needs
 
 put-number-requires : tie.Need-put-number-requires
-put-number-requires c κs = (omega (arith, decimal-short 9 (c .before .before .before .before .before .before .args .x) (omega arith)), omega arith)
+put-number-requires c κs = (
+  omega (arith, decimal-short 9 (c .before .before .before .before .before .before .args .x) (omega arith)),
+  omega
+      arith,
+)
 
 put-byte-requires-2 : tie.Need-put-byte-requires-2
-put-byte-requires-2 c κs = (omega (arith, decimal-short 9 (c .before .before .before .before .before .before .before .before .before .before .args .x) (omega arith)), omega arith)
+put-byte-requires-2 c κs = (
+  omega (
+    arith,
+    decimal-short 9
+        (c .before .before .before .before .before .before .before .before .before .before .args .x) (omega arith),
+  ),
+  omega
+      arith,
+)
 
 put-number-requires-2 : tie.Need-put-number-requires-2
 put-number-requires-2 c κs =
-    let x = c .before .before .before .before .before .before .before .before .before .before .before .before .before .before .args in (
+    let x = c .before .before .before .before .before .before .before .before .before .before .before .before .before
+    .before .args in (
       omega (
         arith,
         decimal-short 9 (x .x) (omega arith),
@@ -33,11 +46,15 @@ same-length c = search needs
 
 returns : tie.Need-returns
 returns c =
-    let x = c .before .before .before .before .before .before .before .before .before .before .before .before .before .before .before .before .before .args in
+    let x = c .before .before .before .before .before .before .before .before .before .before .before .before .before
+    .before .before .before .before .args in
     let number = c .before .before .put-number2 .ensures in
     let between = c .before .before .before .before .before .before .put-byte2 .ensures in
-    let value = c .before .before .before .before .before .before .before .before .before .before .put-number .ensures in (
-      put-then (put-then (put-then (c .before .before .before .before .before .before .before .before .before .before .before .before .before .before .put-byte .ensures) value) between) number,
+    let value = c .before .before .before .before .before .before .before .before .before .before .put-number .ensures
+    in (
+      put-then (put-then (put-then
+          (c .before .before .before .before .before .before .before .before .before .before .before .before .before
+          .before .put-byte .ensures) value) between) number,
       omega (
         arith,
         decimal-short 9 (x .x) (omega arith),

@@ -31,7 +31,8 @@ loop-less : tie.Need-loop-less Inv-loop μ-loop
 loop-less c = omega arith
 
 loop-again : tie.Need-loop-again Inv-loop μ-loop
-loop-again c = one-digit (c .before .before .before .before .before .loop .inv) (omega arith) (c .before .before .put-byte .ensures)
+loop-again c = one-digit (c .before .before .before .before .before .loop .inv) (omega arith)
+    (c .before .before .put-byte .ensures)
 
 cast-put-byte-2 : tie.Need-cast-put-byte-2 Inv-loop μ-loop
 cast-put-byte-2 c = omega arith
@@ -46,10 +47,12 @@ put-byte-requires-2 c κs =
     (digits-room d (p .0), omega (arith, d .put .start, d .put .long))
 
 same-length : tie.Need-same-length Inv-loop μ-loop
-same-length c = c .before .before .put-byte2 .ensures .long ∙ c .before .before .before .before .before .loop .inv .put .long
+same-length c = c .before .before .put-byte2 .ensures .long ∙
+    c .before .before .before .before .before .loop .inv .put .long
 
 returns : tie.Need-returns Inv-loop μ-loop
-returns c = last-digit (c .before .before .before .before .before .loop .inv) (omega arith) (c .before .before .put-byte2 .ensures)
+returns c = last-digit (c .before .before .before .before .before .loop .inv) (omega arith)
+    (c .before .before .put-byte2 .ensures)
 
 pub put-number-spec : {M : Type 1} → statement M
 put-number-spec =

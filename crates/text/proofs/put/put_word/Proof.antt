@@ -34,8 +34,11 @@ shared-slice-read-put-byte c = omega arith
 put-byte-requires : tie.Need-put-byte-requires Inv-loop μ-loop
 put-byte-requires c κs =
     let l = c .before .before .before .loop in
-    let x = c .before .before .before .before .before .before .args in
-    (omega (arith, l .inv .1 .start, length-drop (l .i) (x .word .now)), omega (arith, l .inv .1 .start, l .inv .1 .long))
+    let x = c .before .before .before .before .before .before .args in (
+      omega (arith, l .inv .1 .start, length-drop (l .i) (x .word .now)),
+      omega
+          (arith, l .inv .1 .start, l .inv .1 .long),
+    )
 
 loop-less : tie.Need-loop-less Inv-loop μ-loop
 loop-less c = omega arith
