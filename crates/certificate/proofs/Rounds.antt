@@ -37,10 +37,10 @@ module _ (c : Circuit) (inside : Inside c) (noLoop : NoLoop c) where
 
   -- ---- one round more
 
-  pub next-round : (k : ℕ) (s committed settled : ℕ → Fact) → Agree (graph c) s
-      (after (graph c) (rule c) k (initialStore c))
-      → Agree (graph c) committed (step (graph c) (rule c) s) → Agree (graph c) settled
-      (settle (graph c) (rule c) committed)
+  pub next-round : (k : ℕ) (s committed settled : ℕ → Fact)
+      → Agree (graph c) s (after (graph c) (rule c) k (initialStore c))
+      → Agree (graph c) committed (step (graph c) (rule c) s)
+      → Agree (graph c) settled (settle (graph c) (rule c) committed)
       → Agree (graph c) settled (after (graph c) (rule c) (k + 1) (initialStore c))
   unfolding round
   next-round k s committed settled h stepped done v below =

@@ -54,14 +54,14 @@ module _ {t : List ℕ} {n : ℕ} {scratch cells : List ℕ} {wires registers : 
       omega (arith, rounds-few (circuit t n) inside noLoop, registers-few (circuit t n), circuit-length t n, r .small)
 
 -- before the round after the first `count`
-pub record Running (t : List ℕ) (n : ℕ) (scratch₀ cells₀ scratch cells : List ℕ) (wires registers count : ℕ) : Type 0
-  where
-    pub ready : Ready t n scratch cells wires registers
-    pub kept : KeptOutside n (n + n) scratch₀ scratch
-    pub written : Written n cells₀ cells
-    pub store : (v : ℕ) → v < n
-        → storeOf cells n v ≡ after (graph (circuit t n)) (rule (circuit t n)) count (initialStore (circuit t n)) v
-    pub few : count ≤ rounds (circuit t n)
+pub record Running (t : List ℕ) (n : ℕ) (scratch₀ cells₀ scratch cells : List ℕ)
+    (wires registers count : ℕ) : Type 0 where
+  pub ready : Ready t n scratch cells wires registers
+  pub kept : KeptOutside n (n + n) scratch₀ scratch
+  pub written : Written n cells₀ cells
+  pub store : (v : ℕ) → v < n
+      → storeOf cells n v ≡ after (graph (circuit t n)) (rule (circuit t n)) count (initialStore (circuit t n)) v
+  pub few : count ≤ rounds (circuit t n)
 
 module _ {t : List ℕ} {n : ℕ} {scratch₀ cells₀ scratch cells : List ℕ} {wires registers count : ℕ}
     (run : Running t n scratch₀ cells₀ scratch cells wires registers count) where
@@ -86,8 +86,8 @@ module _ {t : List ℕ} {n : ℕ} {scratch₀ cells₀ scratch cells : List ℕ}
       stopped-here (circuit t n) (inside (run .ready)) (noLoop (run .ready)) count (storeOf cells n) agree (run .few)
       (registers-all true (not-false _ (sym e ∙ not-true changed q)))
 
-  pub run-certificate : count ≡ rounds (circuit t n) → (v : ℕ) → v < n → storeOf cells n v ≡ certificate (circuit t n)
-      v
+  pub run-certificate : count ≡ rounds (circuit t n) → (v : ℕ) → v < n
+      → storeOf cells n v ≡ certificate (circuit t n) v
   run-certificate e v h =
       certificate-reached (circuit t n) (inside (run .ready)) (noLoop (run .ready)) count (storeOf cells n) agree e v
       (omega (arith, circuit-length t n))

@@ -28,8 +28,8 @@ module _ (b : Buffers) where
     pub counts : Counts (graph c) (rule c) (initialStore c) k
     pub few : k ≤ 2 * registers c
     pub certificate : b .output-exit
-        ≡ flatMap factBytes (listBelow (after (graph c) (rule c) k (initialStore c)) (size b)) ++ drop (size b * 8)
-        (b .output)
+        ≡ flatMap factBytes (listBelow (after (graph c) (rule c) k (initialStore c)) (size b))
+        ++ drop (size b * 8) (b .output)
     pub least : LeastStore c (factAt (b .output-exit))
     pub scratch : b .scratch-exit ≡ scratchCleared 8 4 b
 

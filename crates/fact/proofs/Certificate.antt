@@ -222,8 +222,8 @@ module _ (c : Circuit) (inside : Inside c) (noLoop : NoLoop c) where
   input-fact : (v : ℕ) → v < length c → role (recordOf c v) ≡ input → certificate c v ≡ initialFact (recordOf c v)
   input-fact v below e = certificate-fixed v below ∙ monotone c .inputs (certificate c) v below e
 
-  register-fact : (v : ℕ) → v < length c → role (recordOf c v) ≡ register → initialFact (recordOf c v) ⊑ certificate c
-      v
+  register-fact : (v : ℕ) → v < length c → role (recordOf c v) ≡ register
+      → initialFact (recordOf c v) ⊑ certificate c v
   register-fact v below e = rw (certificate-fixed v below) (monotone c .power-on (certificate c) v below e)
 
   -- the facts of the certificate claim what two accepted lists poke

@@ -40,8 +40,8 @@ module _ (each : ℕ) (b : Buffers) (long : length (b .output-exit) ≡ length (
   fits : checked each 4 b ≡ Passed → Fits (b .table) (length (b .output)) each (length (b .scratch)) 4 (size b)
   fits ok = call-fits (b .table) (length (b .output)) each (length (b .scratch)) 4 (size b) refl ok
 
-  turned-down-stands : (g : Ground) (place : ℕ) → TurnedDown each 4 b g place → ShowsRow g place
-      (length (b .scratch-exit))
+  turned-down-stands : (g : Ground) (place : ℕ) → TurnedDown each 4 b g place
+      → ShowsRow g place (length (b .scratch-exit))
   turned-down-stands g place p e = absurd (omega (arith, turned-down-ground each 4 b g place p))
 
   loop-stands : (g : Ground) (place : ℕ) → LoopShown each 4 b place → ShowsRow g place (length (b .scratch-exit))
@@ -77,8 +77,8 @@ pub told-within : (a : Certified) (r : Report) (n certificate scratch line room 
     → Within r certificate room
 told-within (certified.Accepted k) (Bytes count) n certificate scratch line room out exit h stands tells within =
     omega (arith, stands .1, tells .0)
-told-within (certified.Accepted k) (Line r) n certificate scratch line room out exit h stands tells within = absurd
-    tells
+told-within (certified.Accepted k) (Line r) n certificate scratch line room out exit h stands tells within =
+    absurd tells
 told-within (certified.Refused g place) (Bytes count) n certificate scratch line room out exit h stands tells within =
     absurd tells
 told-within (certified.Refused g place) (Line r) n certificate scratch line room out exit h stands tells within =
