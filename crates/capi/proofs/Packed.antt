@@ -9,8 +9,9 @@ use lib.ListN.{length}
 use Rattle.circuit.specs.declared.refusal.Check.the-variants.{Passed}
 use Rattle.circuit.specs.declared.refusal.Ground.{Ground}
 use Rattle.circuit.specs.Refusal.{groundNumber}
+use Rattle.circuit.specs.Stimuli.{checkStimuli}
 use Rattle.circuit.proofs.Passing.{Fits, call-fits}
-use Rattle.circuit.proofs.Places.{ground-range, ground-told, stimuli-place}
+use Rattle.circuit.proofs.Places.{ground-range, ground-told, finds-refused, stimuli-place}
 use Rattle.circuit.proofs.Tables.{circuit-length}
 use Rattle.schedule.specs.Call.{Buffers, size, circuitOf, checked, TurnedDown, LoopShown}
 use Rattle.schedule.proofs.Calls.{turned-down-place, loop-place}
@@ -30,7 +31,7 @@ module _ (b : Buffers) where
       → Fits (b .table) (length (b .output)) each (length (b .scratch)) 4 (size b)
   fits each ok = call-fits (b .table) (length (b .output)) each (length (b .scratch)) 4 (size b) refl ok
 
-  turned-down-low : (each : ℕ) (g : Ground) (place : ℕ) → TurnedDown each 4 b g place → place < 2 ^ 32
+  turned-down-low : (each : ℕ) (g : Ground) (place : ℕ) → TurnedDown each 4 b (groundNumber g) place → place < 2 ^ 32
   turned-down-low each g place p = omega (arith, turned-down-place each 4 b g place p)
 
   loop-low : (each place : ℕ) → LoopShown each 4 b place → length (b .scratch-exit) ≡ length (b .scratch)
@@ -56,7 +57,8 @@ module _ (b : Buffers) where
   benched-low s (benched.Refused g place) (inl p) long = turned-down-low 1 g place p
   benched-low s (benched.Refused g place) (inr (inl (e, p))) long = loop-low 1 place p long
   benched-low s (benched.Refused g place) (inr (inr p)) long =
-      let most : place ≤ 4096 = rw (p .first) at (stimuli-place (circuitOf b) s) in omega arith
+      let refused = finds-refused (checkStimuli (circuitOf b) s) g place (p .first) in
+      let most : place ≤ 4096 = rw refused at (stimuli-place (circuitOf b) s) in omega arith
 
 -- ---- two answers with the same number are the same
 

@@ -12,7 +12,7 @@ use Rattle.circuit.specs.Circuit.{Circuit, graph}
 use Rattle.fact.specs.Fact.{factBytes}
 use Rattle.fact.specs.Rule.{rule}
 use Rattle.fact.specs.Certificate.{initialStore}
-use Rattle.schedule.specs.Call.{Buffers, buffers, size, circuitOf}
+use Rattle.schedule.specs.Call.{Buffers, buffers, size, circuitOf, checked}
 use Rattle.schedule.proofs.Calls.{passed-refused, turned-down-alike}
 use Rattle.certificate.specs.declared.Certified.{Certified}
 use Rattle.certificate.specs.declared.Certified.the-variants.{Accepted, Refused}
@@ -41,16 +41,16 @@ module _ (t output scratch output₁ scratch₁ output₂ scratch₂ : List ℕ)
             ∙ sym (q .certificate),
         p .scratch ∙ sym (q .scratch),
       )
-  answer-fixed (Accepted j) (Refused g place) p (inl q) = absurd (passed-refused (p .passed) (q .first))
+  answer-fixed (Accepted j) (Refused g place) p (inl q) = absurd (passed-refused (checked 8 4 second) _ _ (p .passed) (q .first))
   answer-fixed (Accepted j) (Refused g place) p (inr (e, q)) = absurd (p .no-loop (q .row) (q .loop))
-  answer-fixed (Refused g place) (Accepted k) (inl p) q = absurd (passed-refused (q .passed) (p .first))
+  answer-fixed (Refused g place) (Accepted k) (inl p) q = absurd (passed-refused (checked 8 4 first) _ _ (q .passed) (p .first))
   answer-fixed (Refused g place) (Accepted k) (inr (e, p)) q = absurd (q .no-loop (p .row) (p .loop))
   answer-fixed (Refused g place) (Refused h place′) (inl p) (inl q) =
       let (e, e′, o, s) =
       turned-down-alike 8 4 t output scratch output₁ scratch₁ output₂ scratch₂ g h place place′ p q in
       inl (ap₂ Refused e e′, o, s)
   answer-fixed (Refused g place) (Refused h place′) (inl p) (inr (e, q)) =
-      absurd (passed-refused (q .passed) (p .first))
+      absurd (passed-refused (checked 8 4 first) _ _ (q .passed) (p .first))
   answer-fixed (Refused g place) (Refused h place′) (inr (e, p)) (inl q) =
-      absurd (passed-refused (p .passed) (q .first))
+      absurd (passed-refused (checked 8 4 second) _ _ (p .passed) (q .first))
   answer-fixed (Refused g place) (Refused h place′) (inr (e, p)) (inr (e′, q)) = inr (e, e′)

@@ -7,8 +7,8 @@ use mathlib.Core.List.{_++_, flatMap}
 use Prim.Native.Nat.{ℕ, _*_, _≤_}
 use lib.ListN.{drop}
 use Rattle.net.specs.Net.{listBelow, after, Counts}
-use Rattle.circuit.specs.declared.refusal.Ground.the-variants as ground
 use Rattle.circuit.specs.declared.refusal.Check.the-variants.{Passed}
+use Rattle.circuit.specs.Refusal.{groundNumber}
 use Rattle.circuit.specs.Circuit.{Circuit, graph, NoLoop}
 use Rattle.fact.specs.Fact.{factBytes, factAt}
 use Rattle.fact.specs.Rule.{rule}
@@ -36,9 +36,10 @@ module _ (b : Buffers) where
 -- the promise: what holds of the buffers and the answer
 abbrev pub Certifies : Buffers → Certified → Type 0
 Certifies b (Accepted k) = Certificate b k
-Certifies b (Refused g place) = TurnedDown 8 4 b g place ⊎ ((g ≡ ground.Loop) × LoopShown 8 4 b place)
+Certifies b (Refused g place) =
+    TurnedDown 8 4 b (groundNumber g) place ⊎ ((groundNumber g ≡ 11) × LoopShown 8 4 b place)
 
 -- the answer is ground 11, whatever its place
 abbrev pub ShowsLoop : Certified → Type 0
 ShowsLoop (Accepted k) = ⊥
-ShowsLoop (Refused g place) = g ≡ ground.Loop
+ShowsLoop (Refused g place) = groundNumber g ≡ 11

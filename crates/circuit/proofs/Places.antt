@@ -1,7 +1,7 @@
 -- The numbers of refusals: a ground has its own, from 1 to 17; the place of one of grounds 1 to 10 is 0 or a record of
 -- the table, that of one of 12 to 17 is 0 or a stimulus of the list.
 -- Assumes nothing.
-use mathlib.Core.Path.{_≡_, refl, sym, ap, _∙_}
+use mathlib.Core.Path.{_≡_, refl, sym, ap, ap₂, _∙_}
 use mathlib.Core.Bool.{Bool, true, false, not, _&&_, _||_}
 use mathlib.Core.List.{List, [], _∷_}
 use Prim.Native.Nat.{ℕ, zero, suc, _+_, _-_, _*_, _/_, _%_, _^_, _≤_, zero-le}
@@ -20,7 +20,7 @@ use Rattle.circuit.specs.declared.record.Fields.{Fields}
 use Rattle.circuit.specs.declared.record.ReadRecord.the-variants.{Read}
 use Rattle.circuit.specs.declared.record.Record.{Record}
 use Rattle.circuit.specs.declared.stimulus.ReadStimulus.the-variants as stimulus
-use Rattle.circuit.specs.Refusal.{groundNumber, refuse, _then_}
+use Rattle.circuit.specs.Refusal.{groundNumber, refuse, Finds, _then_}
 use Rattle.circuit.specs.Record.{width, uses, inputOf}
 use Rattle.circuit.specs.Reading.{fieldsAt, decode, codes, unused, refuseRecord, readRecord}
 use Rattle.circuit.specs.Circuit.{Circuit, recordOf}
@@ -80,6 +80,16 @@ ground-range ground = let n = ground-number ground in (n .1, n .2)
 -- a ground's number tells it
 pub ground-told : (g h : Ground) → groundNumber g ≡ groundNumber h → g ≡ h
 ground-told g h e = sym (ground-number g .0) ∙ ap numbered e ∙ ground-number h .0
+
+-- what a check finds by its number is what it is refused on
+pub refused-finds : {c : Check} {ground : Ground} {place : ℕ} → c ≡ check.Refused ground place
+    → Finds c (groundNumber ground) place
+refused-finds e = rw e (refl, refl)
+
+pub finds-refused : (c : Check) (ground : Ground) (place : ℕ) → Finds c (groundNumber ground) place
+    → c ≡ check.Refused ground place
+finds-refused check.Passed ground place f = absurd f
+finds-refused (check.Refused other at) ground place f = ap₂ check.Refused (ground-told other ground (f .0)) (f .1)
 
 -- ---- the ground and the place of a refusal
 

@@ -1,5 +1,6 @@
 -- Document 01's grounds for turning work down: their numbers, and how checks are put in order. A refusal has a place.
 -- Assumes nothing.
+use mathlib.Core.Path.{_≡_}
 use mathlib.Core.Bool.{Bool, true, false}
 use Prim.Native.Nat.{ℕ}
 use Rattle.circuit.specs.declared.refusal.Ground.{Ground}
@@ -31,6 +32,11 @@ groundNumber FixedInput = 17
 abbrev pub refuse : Ground → ℕ → Bool → Check → Check
 refuse ground place true next = Refused ground place
 refuse ground place false next = next
+
+-- a check finds a ground by document 01's number, at a place
+abbrev pub Finds : Check → ℕ → ℕ → Type 0
+Finds Passed number place = ⊥
+Finds (Refused ground at) number place = (groundNumber ground ≡ number) × (at ≡ place)
 
 infixr 20 _then_
 -- the first refusal of two checks

@@ -1,22 +1,17 @@
--- The rounds of a circuit, their count, and the certificate as a store and as bytes.
+-- The rounds of a circuit, their count, and the certificate as a store.
 -- Assumes nothing.
-use mathlib.Core.List.{List, flatMap}
 use Prim.Native.Nat.{ℕ, suc, _*_}
-use lib.ListN.{length}
-use Rattle.net.specs.Net.{sumRegisters, listBelow, settle, count, stopped, Closed, Least}
+use Rattle.net.specs.Net.{sumRegisters, settle, count, stopped, Least}
 use Rattle.circuit.specs.declared.record.Record.{Record}
 use Rattle.circuit.specs.declared.record.Record.the-variants.{Input, Constant, Operator, Multiplexer, Register}
 use Rattle.circuit.specs.Circuit.{Circuit, recordOf, graph}
 use Rattle.fact.specs.declared.Fact.{Fact}
 use Rattle.fact.specs.declared.Fact.the-variants.{Always, Open}
-use Rattle.fact.specs.Fact.{_⊑_, same, factBytes}
+use Rattle.fact.specs.Fact.{_⊑_, same}
 use Rattle.fact.specs.Rule.{inputRule, rule}
 
--- document 01's closed: at every variable the store's fact is at or above what the rule gives from that store
-abbrev pub ClosedStore : Circuit → (ℕ → Fact) → Type 0
-ClosedStore c s = Closed (graph c) (rule c) _⊑_ s
-
--- document 01's least closed store, which is the certificate
+-- document 01's least closed store, which is the certificate; closed is, at every variable the store's fact is at or
+-- above what the rule gives from that store
 abbrev pub LeastStore : Circuit → (ℕ → Fact) → Type 0
 LeastStore c s = Least (graph c) (rule c) _⊑_ s
 
@@ -48,8 +43,3 @@ rounds c = count (graph c) (rule c) same (suc (2 * registers c)) (initialStore c
 unfoldable pub certificate : Circuit → ℕ → Fact
 unfolding stopped rule same registers initialStore
 certificate c = stopped (graph c) (rule c) same (suc (2 * registers c)) (initialStore c)
-
--- document 01's certificate as bytes, 8 a variable, in order
-unfoldable pub certificateBytes : Circuit → List ℕ
-unfolding flatMap listBelow certificate
-certificateBytes c = flatMap factBytes (listBelow (certificate c) (length c))

@@ -13,6 +13,7 @@ use Rattle.circuit.specs.Machine.{machine}
 use Rattle.circuit.specs.Stimuli.{stimuli}
 use Rattle.circuit.proofs.Passing.{Fits, call-fits}
 use Rattle.circuit.proofs.Tables.{circuit-length}
+use Rattle.circuit.proofs.Places.{refused-finds}
 use Rattle.schedule.specs.Schedule.{IsOrder}
 use Rattle.schedule.specs.Call.{buffers}
 use Rattle.schedule.proofs.Orders.{ordered-no-loop}
@@ -73,7 +74,7 @@ module _ (t values scratch : List ℕ) (ok : checkCall t (length values) 1 (leng
         inr (inr (record {
           passed = ok;
           no-loop = ordered-no-loop c (o .order) (o .ordered);
-          first = first;
+          first = refused-finds first;
           output = same;
           scratch = scratch-part cleared;
         }))

@@ -7,9 +7,8 @@ use mathlib.Core.List.{List, _++_}
 use Prim.Native.Nat.{ℕ}
 use lib.ListN.{drop}
 use Rattle.net.specs.Net.{listBelow}
-use Rattle.circuit.specs.declared.refusal.Ground.{Ground}
-use Rattle.circuit.specs.declared.refusal.Ground.the-variants as ground
 use Rattle.circuit.specs.declared.refusal.Check.the-variants as check
+use Rattle.circuit.specs.Refusal.{groundNumber, Finds}
 use Rattle.circuit.specs.Circuit.{Circuit, NoLoop}
 use Rattle.circuit.specs.Machine.{machine}
 use Rattle.circuit.specs.Stimuli.{checkStimuli, stimuli}
@@ -30,11 +29,11 @@ module _ (b : Buffers) (s : List ℕ) where
     pub values : b .output-exit ≡ listBelow (machine c (stimuli s)) (size b) ++ drop (size b) (b .output)
     pub scratch : b .scratch-exit ≡ scratchCleared 1 4 b
 
-  -- none of 1 to 11 holds, one of 12 to 17 is the list's first, and the values are as they were
-  pub record ListRefused (g : Ground) (place : ℕ) : Type 0 where
+  -- none of 1 to 11 holds, one of 12 to 17, by its number, is the list's first, and the values are as they were
+  pub record ListRefused (number place : ℕ) : Type 0 where
     pub passed : checked 1 4 b ≡ check.Passed
     pub no-loop : NoLoop c
-    pub first : checkStimuli c s ≡ check.Refused g place
+    pub first : Finds (checkStimuli c s) number place
     pub output : b .output-exit ≡ b .output
     pub scratch : b .scratch-exit ≡ scratchCleared 1 4 b
 
@@ -42,9 +41,10 @@ module _ (b : Buffers) (s : List ℕ) where
 abbrev pub Benches : Buffers → List ℕ → Benched → Type 0
 Benches b s Accepted = Ran b s
 Benches b s (Refused g place) =
-    TurnedDown 1 4 b g place ⊎ (((g ≡ ground.Loop) × LoopShown 1 4 b place) ⊎ ListRefused b s g place)
+    TurnedDown 1 4 b (groundNumber g) place
+    ⊎ (((groundNumber g ≡ 11) × LoopShown 1 4 b place) ⊎ ListRefused b s (groundNumber g) place)
 
 -- the answer is ground 11, whatever its place
 abbrev pub ShowsLoop : Benched → Type 0
 ShowsLoop Accepted = ⊥
-ShowsLoop (Refused g place) = g ≡ ground.Loop
+ShowsLoop (Refused g place) = groundNumber g ≡ 11

@@ -9,17 +9,18 @@ use lib.ListN.{length, drop, replicate, length-append, length-drop, length-repli
 use Rattle.circuit.specs.declared.refusal.Ground.{Ground}
 use Rattle.circuit.specs.declared.refusal.Check.{Check}
 use Rattle.circuit.specs.declared.refusal.Check.the-variants.{Passed, Refused}
-use Rattle.circuit.specs.Refusal.{groundNumber}
-use Rattle.circuit.proofs.Places.{call-place, call-ground}
-use Rattle.schedule.specs.Call.{Buffers, buffers, size, TurnedDown, LoopShown}
+use Rattle.circuit.specs.Refusal.{groundNumber, Finds}
+use Rattle.circuit.proofs.Places.{call-place, call-ground, ground-told, finds-refused}
+use Rattle.schedule.specs.Call.{Buffers, buffers, size, checked, TurnedDown, LoopShown}
 
-pub passed-refused : {g : Ground} {place : ℕ} {check : Check} → check ≡ Passed → check ≡ Refused g place → ⊥
-passed-refused p q = let z : _≡_ {A = ℕ} 0 1 = cc in omega arith
+pub passed-refused : (check : Check) (number place : ℕ) → check ≡ Passed → Finds check number place → ⊥
+passed-refused check number place p q = rw p at q
 
--- a check is refused on one ground, at one place
-pub refusal-unique : {g h : Ground} {i j : ℕ} {check : Check} → check ≡ Refused g i → check ≡ Refused h j
-    → (g ≡ h) × (i ≡ j)
-refusal-unique p q = (cc, cc)
+-- a check finds one ground, at one place
+pub refusal-unique : (check : Check) (g h : Ground) (i j : ℕ) → Finds check (groundNumber g) i
+    → Finds check (groundNumber h) j → (g ≡ h) × (i ≡ j)
+refusal-unique Passed g h i j p q = absurd p
+refusal-unique (Refused ground at) g h i j p q = (ground-told g h (sym (p .0) ∙ q .0), sym (p .1) ∙ q .1)
 
 module _ (each room : ℕ) (t output scratch output₁ scratch₁ output₂ scratch₂ : List ℕ) where
   abbrev first : Buffers
@@ -28,21 +29,23 @@ module _ (each room : ℕ) (t output scratch output₁ scratch₁ output₂ scra
   abbrev second : Buffers
   second = buffers t output scratch output₂ scratch₂
 
-  pub turned-down-alike : (g h : Ground) (i j : ℕ) → TurnedDown each room first g i → TurnedDown each room second h j
+  pub turned-down-alike : (g h : Ground) (i j : ℕ) → TurnedDown each room first (groundNumber g) i
+      → TurnedDown each room second (groundNumber h) j
       → (g ≡ h) × (i ≡ j) × (output₁ ≡ output₂) × (scratch₁ ≡ scratch₂)
   turned-down-alike g h i j p q =
-      let (e, e′) = refusal-unique (p .first) (q .first) in
+      let (e, e′) = refusal-unique (checked each room first) g h i j (p .first) (q .first) in
       (e, e′, p .output ∙ sym (q .output), p .scratch ∙ sym (q .scratch))
 
-pub turned-down-place : (each room : ℕ) (b : Buffers) (g : Ground) (place : ℕ) → TurnedDown each room b g place
-    → place ≤ 4096
-turned-down-place each room b g place p =
-    rw (p .first) at (call-place (b .table) (length (b .output)) each (length (b .scratch)) room)
+module _ (each room : ℕ) (b : Buffers) (g : Ground) (place : ℕ) (p : TurnedDown each room b (groundNumber g) place)
+  where
+    turned-down : checked each room b ≡ Refused g place
+    turned-down = finds-refused (checked each room b) g place (p .first)
 
-pub turned-down-ground : (each room : ℕ) (b : Buffers) (g : Ground) (place : ℕ) → TurnedDown each room b g place
-    → groundNumber g ≤ 10
-turned-down-ground each room b g place p =
-    rw (p .first) at (call-ground (b .table) (length (b .output)) each (length (b .scratch)) room)
+    pub turned-down-place : place ≤ 4096
+    turned-down-place = rw turned-down at (call-place (b .table) (length (b .output)) each (length (b .scratch)) room)
+
+    pub turned-down-ground : groundNumber g ≤ 10
+    turned-down-ground = rw turned-down at (call-ground (b .table) (length (b .output)) each (length (b .scratch)) room)
 
 pub loop-place : (each room : ℕ) (b : Buffers) (place : ℕ) → LoopShown each room b place
     → length (b .scratch-exit) ≡ length (b .scratch) → size b * room ≤ length (b .scratch) → place ≤ size b * room

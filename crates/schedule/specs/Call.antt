@@ -6,9 +6,9 @@ use mathlib.Core.List.{List, _++_}
 use Prim.Native.Nat.{ℕ, _-_, _*_, _/_}
 use lib.ListN.{length, drop, replicate}
 use Rattle.net.specs.Loop.{Loop, LowestFirst}
-use Rattle.circuit.specs.declared.refusal.Ground.{Ground}
 use Rattle.circuit.specs.declared.refusal.Check.{Check}
-use Rattle.circuit.specs.declared.refusal.Check.the-variants.{Passed, Refused}
+use Rattle.circuit.specs.declared.refusal.Check.the-variants.{Passed}
+use Rattle.circuit.specs.Refusal.{Finds}
 use Rattle.circuit.specs.Circuit.{Circuit, circuit, graph}
 use Rattle.circuit.specs.Checks.{checkCall}
 
@@ -57,9 +57,9 @@ module _ (each room : ℕ) (b : Buffers) where
   abbrev pub OutputKept : Type 0
   OutputKept = b .output-exit ≡ b .output
 
-  -- one of grounds 1 to 10 is the first that holds, and every buffer is as it was
-  pub record TurnedDown (g : Ground) (place : ℕ) : Type 0 where
-    pub first : checked ≡ Refused g place
+  -- one of grounds 1 to 10, by its number, is the first that holds, and every buffer is as it was
+  pub record TurnedDown (number place : ℕ) : Type 0 where
+    pub first : Finds checked number place
     pub output : OutputKept
     pub scratch : b .scratch-exit ≡ b .scratch
 

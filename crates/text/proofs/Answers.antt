@@ -10,8 +10,9 @@ use lib.ListN.{length}
 use Rattle.circuit.specs.declared.refusal.Ground.{Ground}
 use Rattle.circuit.specs.declared.refusal.Check.the-variants.{Passed}
 use Rattle.circuit.specs.Refusal.{groundNumber}
+use Rattle.circuit.specs.Stimuli.{checkStimuli}
 use Rattle.circuit.proofs.Passing.{Fits, call-fits}
-use Rattle.circuit.proofs.Places.{stimuli-ground}
+use Rattle.circuit.proofs.Places.{finds-refused, stimuli-ground}
 use Rattle.schedule.specs.Call.{Buffers, size, circuitOf, checked, TurnedDown, LoopShown}
 use Rattle.schedule.proofs.Calls.{turned-down-ground, loop-place}
 use Rattle.certificate.specs.declared.Certified.{Certified}
@@ -40,7 +41,7 @@ module _ (each : ℕ) (b : Buffers) (long : length (b .output-exit) ≡ length (
   fits : checked each 4 b ≡ Passed → Fits (b .table) (length (b .output)) each (length (b .scratch)) 4 (size b)
   fits ok = call-fits (b .table) (length (b .output)) each (length (b .scratch)) 4 (size b) refl ok
 
-  turned-down-stands : (g : Ground) (place : ℕ) → TurnedDown each 4 b g place
+  turned-down-stands : (g : Ground) (place : ℕ) → TurnedDown each 4 b (groundNumber g) place
       → ShowsRow g place (length (b .scratch-exit))
   turned-down-stands g place p e = absurd (omega (arith, turned-down-ground each 4 b g place p))
 
@@ -69,7 +70,8 @@ module _ (b : Buffers) (long : length (b .output-exit) ≡ length (b .output))
   benched-stands s (benched.Refused g place) (inl p) = turned-down-stands 1 b long scratch-long g place p
   benched-stands s (benched.Refused g place) (inr (inl (is, p))) = loop-stands 1 b long scratch-long g place p
   benched-stands s (benched.Refused g place) (inr (inr p)) = λ e.
-      absurd (omega (arith, rw (p .first) at (stimuli-ground (circuitOf b) s)))
+      let refused = finds-refused (checkStimuli (circuitOf b) s) g place (p .first) in
+      absurd (omega (arith, rw refused at (stimuli-ground (circuitOf b) s)))
 
 -- what is told of stands in longer buffers too, a certificate in its own
 pub told-within : (a : Certified) (r : Report) (n certificate scratch line room : ℕ) (out exit : List ℕ) → line ≤ room

@@ -2,6 +2,7 @@
 -- Assumes nothing.
 use mathlib.Core.Path.{refl, sym, _∙_}
 use mathlib.Core.Logic.{inl}
+use Rattle.circuit.proofs.Places.{refused-finds}
 use borrow.Author.Needs.{needs}
 use Rattle.machine.proofs.bench.Statement.{statement}
 use Rattle.machine.proofs.bench.Tie as tie
@@ -22,7 +23,7 @@ bench-checked-requires c κs =
 returns : tie.Need-returns
 returns c =
     inl (record {
-      first = sym (c .before .before .before .check-call .ensures) ∙ c .before .check .given .1;
+      first = refused-finds (sym (c .before .before .before .check-call .ensures) ∙ c .before .check .given .1);
       output = refl;
       scratch = refl;
     })
