@@ -41,9 +41,11 @@ module _ (t output scratch output₁ scratch₁ output₂ scratch₂ : List ℕ)
             ∙ sym (q .certificate),
         p .scratch ∙ sym (q .scratch),
       )
-  answer-fixed (Accepted j) (Refused g place) p (inl q) = absurd (passed-refused (checked 8 4 second) _ _ (p .passed) (q .first))
+  answer-fixed (Accepted j) (Refused g place) p (inl q) =
+      absurd (passed-refused (checked 8 4 second) _ _ (p .passed) (q .first))
   answer-fixed (Accepted j) (Refused g place) p (inr (e, q)) = absurd (p .no-loop (q .row) (q .loop))
-  answer-fixed (Refused g place) (Accepted k) (inl p) q = absurd (passed-refused (checked 8 4 first) _ _ (q .passed) (p .first))
+  answer-fixed (Refused g place) (Accepted k) (inl p) q =
+      absurd (passed-refused (checked 8 4 first) _ _ (q .passed) (p .first))
   answer-fixed (Refused g place) (Accepted k) (inr (e, p)) q = absurd (q .no-loop (p .row) (p .loop))
   answer-fixed (Refused g place) (Refused h place′) (inl p) (inl q) =
       let (e, e′, o, s) =
