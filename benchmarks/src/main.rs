@@ -20,6 +20,7 @@ use common::tables::damage;
 use common::{noise, Random};
 use measure::{medians, Call};
 use shapes::Shape;
+use std::fmt::Debug;
 use std::hint::black_box;
 
 type Certify = fn(&[u8], &mut [u8], &mut [u16]) -> certify::Answer;
@@ -84,11 +85,7 @@ fn certified(table: &[u8], longer: usize) -> certify::Answer {
         let answer = call(table, &mut certificate, &mut scratch);
         (answer, certificate, scratch)
     });
-    for (i, variant) in made.iter().enumerate().skip(1) {
-        assert_eq!(made[0].0, variant.0, "the answer of variant {i}");
-        assert_eq!(made[0].1, variant.1, "the certificate of variant {i}");
-        assert!(i > SAME_SCRATCH || made[0].2 == variant.2, "the scratch of variant {i}");
-    }
+    assert_alike(&made);
     made[0].0
 }
 
@@ -101,12 +98,17 @@ fn benched(table: &[u8], stimuli: &[u8], longer: usize) -> bench::Answer {
         let answer = call(table, stimuli, &mut values, &mut scratch);
         (answer, values, scratch)
     });
+    assert_alike(&made);
+    made[0].0
+}
+
+/// Asserts that every variant made the archive's answer and output, and the first variants its scratch.
+fn assert_alike<A: PartialEq + Debug, T: PartialEq + Debug>(made: &[(A, Vec<T>, Vec<u16>)]) {
     for (i, variant) in made.iter().enumerate().skip(1) {
         assert_eq!(made[0].0, variant.0, "the answer of variant {i}");
-        assert_eq!(made[0].1, variant.1, "the values of variant {i}");
+        assert_eq!(made[0].1, variant.1, "the output of variant {i}");
         assert!(i > SAME_SCRATCH || made[0].2 == variant.2, "the scratch of variant {i}");
     }
-    made[0].0
 }
 
 /// How many records are wires and how many registers.

@@ -40,6 +40,7 @@ fn write_initial(t: &[u8], n: usize, values: &mut [u32])
 }
 
 // What wire v's record gives. It is no input and no register, so what is no constant and no operator is a multiplexer.
+// The code goes through its operator, which bounds it: the jump on it then has one case less.
 fn wire_value(t: &[u8], n: usize, values: &[u32], v: usize) -> u32
     requires { ⌜ (n * 16 ≤ length (now t)) × (n ≤ length (now values)) × (v < n) ⌝ }
     requires { ⌜ checkRecords (now t) n ≡ Passed ⌝ }
