@@ -6,7 +6,6 @@
 mod bench;
 mod certify;
 mod measure;
-mod rules;
 mod schedule;
 mod shapes;
 mod table;
@@ -19,6 +18,7 @@ use common::shapes::random_pair;
 use common::tables::damage;
 use common::{noise, Random};
 use measure::{medians, Call};
+use model::{read_records, Record};
 use shapes::Shape;
 use std::fmt::Debug;
 use std::hint::black_box;
@@ -113,10 +113,9 @@ fn assert_alike<A: PartialEq + Debug, T: PartialEq + Debug>(made: &[(A, Vec<T>, 
 
 /// How many records are wires and how many registers.
 fn counted(table: &[u8]) -> (usize, usize) {
-    let of = |kinds: std::ops::RangeInclusive<u8>| {
-        table.as_chunks::<16>().0.iter().filter(|record| kinds.contains(&record[0])).count()
-    };
-    (of(1..=3), of(4..=4))
+    let records = read_records(table).expect("the shapes are accepted");
+    let count = |chosen: fn(&Record) -> bool| records.iter().filter(|record| chosen(record)).count();
+    (count(Record::is_wire), count(Record::is_register))
 }
 
 fn certify_row(shape: &Shape) {

@@ -3,11 +3,7 @@
 //! from place n on.
 
 use crate::table::Table;
-
-pub enum Outcome {
-    Order(usize, usize),
-    Loop(usize),
-}
+use model::{Refusal, SCRATCH_A_RECORD};
 
 enum Visited {
     All(usize),
@@ -69,8 +65,10 @@ fn show_loop(s: &mut [u16], n: usize, top: usize, u: usize) -> usize {
     row.len()
 }
 
-/// The wires in order and then the registers at the front of the scratch, or a loop. The rest of the part is 0.
-pub fn schedule(t: &impl Table, n: usize, part: usize, s: &mut [u16]) -> Outcome {
+/// The wires in order and then the registers at the front of the scratch, and how many there are; or a loop. The
+/// rest of the part is 0.
+pub fn schedule(t: &impl Table, n: usize, s: &mut [u16]) -> Result<(usize, usize), Refusal> {
+    let part = n * SCRATCH_A_RECORD;
     s[n..n + n].fill(0);
     match visit_all(t, n, s) {
         Visited::All(wires) => {
@@ -82,12 +80,12 @@ pub fn schedule(t: &impl Table, n: usize, part: usize, s: &mut [u16]) -> Outcome
                 }
             }
             s[wires + registers..part].fill(0);
-            Outcome::Order(wires, registers)
+            Ok((wires, registers))
         }
         Visited::Loop(top, u) => {
             let size = show_loop(s, n, top, u);
             s[size..part].fill(0);
-            Outcome::Loop(size)
+            Err(Refusal::of_loop(size))
         }
     }
 }

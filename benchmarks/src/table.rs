@@ -1,8 +1,8 @@
-//! Where a record comes from: the only thing, with where a fact lives, in which the first variants differ.
-//! What is here is always inlined, so that no variant pays for a call where the archive has none.
+//! Where a record and a fact live: the only thing in which the first variants differ. What they are and what
+//! they give is the model's. All of it is always inlined, so that no variant pays for a call where the
+//! archive has none: left to itself the compiler keeps some apart, and hands a record over in memory.
 
-use crate::rules::{decode, read_record, Fact, Fields, Record};
-use model::Refusal;
+use model::{Fact, Fields, Kind, Record, Refusal};
 
 pub trait Table {
     fn len(&self) -> usize;
@@ -25,56 +25,32 @@ pub struct Bytes<'a>(pub &'a [u8]);
 pub struct Chunks<'a>(pub &'a [[u8; 16]]);
 
 #[inline(always)]
-fn u16_at(t: &[u8], at: usize) -> u16 {
-    u16::from(t[at]) + 256 * u16::from(t[at + 1])
-}
-
-#[inline(always)]
-pub fn u32_at(t: &[u8], at: usize) -> u32 {
-    u32::from(t[at])
-        + 256 * u32::from(t[at + 1])
-        + 65_536 * u32::from(t[at + 2])
-        + 16_777_216 * u32::from(t[at + 3])
-}
-
-/// The fields of the 16 bytes from a place on.
-#[inline(always)]
-fn fields_at(t: &[u8], at: usize) -> Fields {
-    Fields {
-        kind: t[at],
-        width: t[at + 1],
-        code: t[at + 2],
-        byte3: t[at + 3],
-        a: u16_at(t, at + 4),
-        b: u16_at(t, at + 6),
-        c: u16_at(t, at + 8),
-        bytes10: u16_at(t, at + 10),
-        value: u32_at(t, at + 12),
-    }
-}
-
-#[inline(always)]
-fn fields_of(bytes: &[u8; 16]) -> Fields {
-    fields_at(bytes, 0)
-}
-
-#[inline(always)]
-fn wire_uses_of(kind: u8) -> u16 {
-    match kind {
-        1 => 1,
-        2 => 3,
-        3 => 4,
-        _ => 0,
+fn wire_uses_of(kind: Kind) -> u16 {
+    if kind.is_wire() {
+        kind.uses() as u16 + 1
+    } else {
+        0
     }
 }
 
 impl<'a> Bytes<'a> {
     /// The table, if none of its n records meets one of grounds 5 to 10.
     pub fn checked(t: &'a [u8], n: usize) -> Result<Bytes<'a>, Refusal> {
-        for i in 0..n {
-            read_record(fields_at(t, i * 16), n).map_err(|ground| Refusal { ground, place: i })?;
+        let table = Bytes(t);
+        for place in 0..n {
+            table.fields(place).check(n).map_err(|ground| Refusal { ground, place })?;
         }
-        Ok(Bytes(t))
+        Ok(table)
+    }
+
+    #[inline(always)]
+    fn fields(&self, v: usize) -> Fields {
+        Fields::read(|i| self.0[v * 16 + i])
+    }
+
+    #[inline(always)]
+    fn kind(&self, v: usize) -> Kind {
+        Kind::with_number(self.0[v * 16])
     }
 }
 
@@ -86,33 +62,43 @@ impl Table for Bytes<'_> {
 
     #[inline(always)]
     fn record(&self, v: usize) -> Record {
-        decode(fields_at(self.0, v * 16))
+        self.fields(v).record()
     }
 
     #[inline(always)]
     fn wire_uses(&self, v: usize) -> u16 {
-        wire_uses_of(self.0[v * 16])
+        wire_uses_of(self.kind(v))
     }
 
     #[inline(always)]
     fn use_at(&self, v: usize, k: usize) -> usize {
-        u16_at(self.0, v * 16 + 4 + k * 2).into()
+        Fields::read_variable(|i| self.0[v * 16 + i], k).into()
     }
 
     #[inline(always)]
     fn is_register(&self, v: usize) -> bool {
-        4 <= self.0[v * 16]
+        self.kind(v) == Kind::Register
     }
 }
 
 impl<'a> Chunks<'a> {
-    pub fn checked(t: &'a [u8], n: usize) -> Result<Chunks<'a>, Refusal> {
-        let records = t.as_chunks().0;
-        for (place, bytes) in records.iter().enumerate() {
-            read_record(fields_of(bytes), n).map_err(|ground| Refusal { ground, place })?;
+    /// The table, if none of its records meets one of grounds 5 to 10.
+    pub fn checked(t: &'a [[u8; 16]]) -> Result<Chunks<'a>, Refusal> {
+        for (place, bytes) in t.iter().enumerate() {
+            fields_of(bytes).check(t.len()).map_err(|ground| Refusal { ground, place })?;
         }
-        Ok(Chunks(records))
+        Ok(Chunks(t))
     }
+
+    #[inline(always)]
+    fn kind(&self, v: usize) -> Kind {
+        Kind::with_number(self.0[v][0])
+    }
+}
+
+#[inline(always)]
+fn fields_of(bytes: &[u8; 16]) -> Fields {
+    Fields::read(|i| bytes[i])
 }
 
 impl Table for Chunks<'_> {
@@ -123,22 +109,22 @@ impl Table for Chunks<'_> {
 
     #[inline(always)]
     fn record(&self, v: usize) -> Record {
-        decode(fields_of(&self.0[v]))
+        fields_of(&self.0[v]).record()
     }
 
     #[inline(always)]
     fn wire_uses(&self, v: usize) -> u16 {
-        wire_uses_of(self.0[v][0])
+        wire_uses_of(self.kind(v))
     }
 
     #[inline(always)]
     fn use_at(&self, v: usize, k: usize) -> usize {
-        u16_at(&self.0[v], 4 + k * 2).into()
+        Fields::read_variable(|i| self.0[v][i], k).into()
     }
 
     #[inline(always)]
     fn is_register(&self, v: usize) -> bool {
-        4 <= self.0[v][0]
+        self.kind(v) == Kind::Register
     }
 }
 
@@ -152,12 +138,13 @@ pub struct Decoded {
 }
 
 /// The records as structs, or the first of grounds 5 to 10 that one of them meets.
-pub fn decoded(t: &[u8], n: usize) -> Result<Vec<Decoded>, Refusal> {
-    let mut records = Vec::with_capacity(n);
-    for (place, bytes) in t.as_chunks().0.iter().enumerate() {
-        let f = fields_of(bytes);
-        let record = read_record(f, n).map_err(|ground| Refusal { ground, place })?;
-        records.push(Decoded { record, uses: [f.a, f.b, f.c], wire_uses: wire_uses_of(f.kind) });
+pub fn decoded(t: &[[u8; 16]]) -> Result<Vec<Decoded>, Refusal> {
+    let mut records = Vec::with_capacity(t.len());
+    for (place, bytes) in t.iter().enumerate() {
+        let fields = fields_of(bytes);
+        fields.check(t.len()).map_err(|ground| Refusal { ground, place })?;
+        let wire_uses = wire_uses_of(Kind::with_number(bytes[0]));
+        records.push(Decoded { record: fields.record(), uses: fields.variables, wire_uses });
     }
     Ok(records)
 }
@@ -185,7 +172,7 @@ impl Table for Vec<Decoded> {
 
     #[inline(always)]
     fn is_register(&self, v: usize) -> bool {
-        matches!(self[v].record, Record::Register(..))
+        self[v].record.is_register()
     }
 }
 
@@ -205,35 +192,26 @@ pub struct ChunkCells<'a>(pub &'a mut [[u8; 8]]);
 impl Cells for ByteCells<'_> {
     #[inline(always)]
     fn load(&self, v: usize) -> Fact {
-        let n = u32_at(self.0, v * 8 + 4);
-        Fact::of(self.0[v * 8], n)
+        Fact::read(|i| self.0[v * 8 + i])
     }
 
     #[inline(always)]
     fn store(&mut self, v: usize, f: Fact) {
-        let at = v * 8;
-        let n = f.number();
-        self.0[at] = f.byte();
-        self.0[at + 1] = 0;
-        self.0[at + 2] = 0;
-        self.0[at + 3] = 0;
-        self.0[at + 4] = n as u8;
-        self.0[at + 5] = (n >> 8) as u8;
-        self.0[at + 6] = (n >> 16) as u8;
-        self.0[at + 7] = (n >> 24) as u8;
+        for (i, byte) in f.bytes().into_iter().enumerate() {
+            self.0[v * 8 + i] = byte;
+        }
     }
 }
 
 impl Cells for ChunkCells<'_> {
     #[inline(always)]
     fn load(&self, v: usize) -> Fact {
-        let [byte, _, _, _, number @ ..] = self.0[v];
-        Fact::of(byte, u32::from_le_bytes(number))
+        let bytes = self.0[v];
+        Fact::read(|i| bytes[i])
     }
 
     #[inline(always)]
     fn store(&mut self, v: usize, f: Fact) {
-        let [a, b, c, d] = f.number().to_le_bytes();
-        self.0[v] = [f.byte(), 0, 0, 0, a, b, c, d];
+        self.0[v] = f.bytes();
     }
 }

@@ -2,42 +2,34 @@
 //! evaluate only what uses a changed variable.
 
 use crate::certify::Answer;
-use crate::rules::{check_lengths, initial_fact, rule, Fact, Record};
-use crate::schedule::{schedule, Outcome};
+use crate::schedule::schedule;
 use crate::table::{decoded, Decoded};
-use model::Refusal;
+use model::{check_lengths, Fact, SCRATCH_A_RECORD};
 
 pub fn certify(table: &[u8], certificate: &mut [u8], scratch: &mut [u16]) -> Answer {
-    let n = check_lengths(table.len(), certificate.len(), 8, scratch.len())?;
-    let records = decoded(table, n)?;
-    let (wires, registers) = match schedule(&records, n, n * 4, scratch) {
-        Outcome::Loop(place) => return Err(Refusal { ground: 11, place }),
-        Outcome::Order(wires, registers) => (wires, registers),
-    };
-    let mut facts: Vec<Fact> = records.iter().map(|r| initial_fact(r.record)).collect();
+    let records = decoded(check_lengths(table, certificate.len(), 8, scratch.len())?)?;
+    let n = records.len();
+    let (wires, registers) = schedule(&records, n, scratch)?;
+    let mut facts: Vec<Fact> = records.iter().map(|r| r.record.first_fact()).collect();
     for &v in &scratch[..wires] {
         facts[usize::from(v)] = rule_fact(&records, &facts, v);
     }
     let rounds = run_rounds(&records, &scratch[..wires + registers], wires, &mut facts);
     for (bytes, f) in certificate.as_chunks_mut().0.iter_mut().zip(&facts) {
-        let [a, b, c, d] = f.number().to_le_bytes();
-        *bytes = [f.byte(), 0, 0, 0, a, b, c, d];
+        *bytes = f.bytes();
     }
-    scratch[..n * 4].fill(0);
+    scratch[..n * SCRATCH_A_RECORD].fill(0);
     Ok(rounds)
 }
 
 #[inline(always)]
 fn rule_fact(records: &[Decoded], facts: &[Fact], v: u16) -> Fact {
-    rule(records[usize::from(v)].record, |u| facts[u])
+    records[usize::from(v)].record.fact(|u| facts[u])
 }
 
 /// The variables that a record uses.
 fn uses(r: &Decoded) -> &[u16] {
-    match r.record {
-        Record::Register(..) => &r.uses[..1],
-        _ => &r.uses[..usize::from(r.wire_uses.saturating_sub(1))],
-    }
+    &r.uses[..r.record.kind().uses()]
 }
 
 /// For each variable the places in the order of those that use it: from `starts[v]` to `starts[v + 1]`.

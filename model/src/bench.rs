@@ -17,18 +17,30 @@ pub enum Stimulus {
 impl Stimulus {
     /// The stimulus in 8 bytes, or the first of grounds 14 to 17 that holds.
     pub fn read(bytes: &[u8; 8], records: &[Record]) -> Result<Stimulus, u32> {
-        let variable = usize::from(u16::from_le_bytes([bytes[2], bytes[3]]));
-        let n = u32::from_le_bytes([bytes[4], bytes[5], bytes[6], bytes[7]]);
-        match (bytes[0], bytes[1]) {
-            (0, 0) => Stimulus::read_poke(variable, n, records),
+        let stimulus = Stimulus::decode(|i| bytes[i])?;
+        stimulus.check(|variable| records.get(variable).copied())?;
+        Ok(stimulus)
+    }
+
+    /// The stimulus in the 8 bytes of which `byte` gives each, or ground 14.
+    #[inline(always)]
+    pub fn decode(byte: impl Fn(usize) -> u8) -> Result<Stimulus, u32> {
+        let variable = usize::from(u16::from_le_bytes([byte(2), byte(3)]));
+        let n = u32::from_le_bytes([byte(4), byte(5), byte(6), byte(7)]);
+        match (byte(0), byte(1)) {
+            (0, 0) => Ok(Stimulus::Poke { variable, n }),
             (1, 0) if variable == 0 && n == 0 => Ok(Stimulus::Tick),
             _ => Err(14),
         }
     }
 
-    /// The poke of this variable with n, or the first of grounds 15 to 17 that holds.
-    fn read_poke(variable: usize, n: u32, records: &[Record]) -> Result<Stimulus, u32> {
-        let Some(&Record::Input { width, kind }) = records.get(variable) else {
+    /// The first of grounds 15 to 17 that holds, in the table of which `record` gives each variable's record.
+    #[inline(always)]
+    pub fn check(self, record: impl Fn(usize) -> Option<Record>) -> Result<(), u32> {
+        let Stimulus::Poke { variable, n } = self else {
+            return Ok(());
+        };
+        let Some(Record::Input { width, kind }) = record(variable) else {
             return Err(15);
         };
         if !fits(n, width) {
@@ -36,22 +48,27 @@ impl Stimulus {
         }
         match kind {
             InputKind::Fixed(fixed) if n != fixed => Err(17),
-            _ => Ok(Stimulus::Poke { variable, n }),
+            _ => Ok(()),
         }
     }
 }
 
-/// The list of stimuli, or the first of grounds 12 to 17 that holds.
-fn read_stimuli(bytes: &[u8], records: &[Record]) -> Result<Vec<Stimulus>, Refusal> {
-    let (stimuli, rest) = bytes.as_chunks::<8>();
+/// The 8 bytes of each stimulus, or the first of grounds 12 and 13 that holds.
+pub fn split_stimuli(bytes: &[u8]) -> Result<&[[u8; 8]], Refusal> {
+    let (stimuli, rest) = bytes.as_chunks();
     if !rest.is_empty() {
         return Err(Refusal { ground: 12, place: 0 });
     }
     if stimuli.len() > MOST_STIMULI {
         return Err(Refusal { ground: 13, place: 0 });
     }
+    Ok(stimuli)
+}
+
+/// The list of stimuli, or the first of grounds 12 to 17 that holds.
+fn read_stimuli(bytes: &[u8], records: &[Record]) -> Result<Vec<Stimulus>, Refusal> {
     let read = |(place, bytes)| Stimulus::read(bytes, records).map_err(|ground| Refusal { ground, place });
-    stimuli.iter().enumerate().map(read).collect()
+    split_stimuli(bytes)?.iter().enumerate().map(read).collect()
 }
 
 /// The state after the last stimulus of a list, or at power-on where there is none.

@@ -4,16 +4,22 @@
 use crate::table::accept;
 use crate::{rule, settle, together, Fact, Record, Refusal};
 
-/// Before any round: inputs have their rule's fact, each register is always its power-on value, and the
-/// wires follow.
+impl Record {
+    /// The fact before any round: an input has its rule's, a register is always its power-on value. A wire's
+    /// follows from them, whatever it is here.
+    #[inline(always)]
+    pub fn first_fact(self) -> Fact {
+        match self {
+            Record::Input { kind, .. } => kind.fact(),
+            Record::Register { power_on, .. } => Fact::Always(power_on),
+            _ => Fact::Open,
+        }
+    }
+}
+
+/// Before any round: inputs and registers have their first facts, and the wires follow.
 pub fn before_any_round(records: &[Record]) -> Vec<Fact> {
-    // An input's rule reads no store, and settling replaces every wire's fact, whatever it is here.
-    let any = vec![Fact::Marked; records.len()];
-    let start = |i: usize| match records[i] {
-        Record::Register { power_on, .. } => Fact::Always(power_on),
-        _ => rule(records, &any, i),
-    };
-    let start: Vec<Fact> = (0..records.len()).map(start).collect();
+    let start: Vec<Fact> = records.iter().map(|record| record.first_fact()).collect();
     settle(records, &start, rule)
 }
 
@@ -39,16 +45,44 @@ pub fn rounds(records: &[Record]) -> (u32, Vec<Fact>) {
     }
 }
 
-/// The 8 bytes of a variable with this fact: 1 always, 2 open or 3 marked, three zeros, and n or 0.
-fn certificate_bytes(fact: Fact) -> [u8; 8] {
-    let (code, n) = match fact {
-        Fact::Always(n) => (1, n),
-        Fact::Open => (2, 0),
-        Fact::Marked => (3, 0),
-    };
-    let mut bytes = [code, 0, 0, 0, 0, 0, 0, 0];
-    bytes[4..].copy_from_slice(&n.to_le_bytes());
-    bytes
+impl Fact {
+    /// Byte 0 of a variable's 8 bytes: 1 always, 2 open, 3 marked.
+    #[inline(always)]
+    pub fn code(self) -> u8 {
+        match self {
+            Fact::Always(_) => 1,
+            Fact::Open => 2,
+            Fact::Marked => 3,
+        }
+    }
+
+    /// The fact with this code, which is always n if it is always a number.
+    #[inline(always)]
+    pub fn with_code(code: u8, n: u32) -> Fact {
+        match code {
+            1 => Fact::Always(n),
+            2 => Fact::Open,
+            _ => Fact::Marked,
+        }
+    }
+
+    /// The 8 bytes of a variable: the code, three zeros, and n or 0.
+    #[inline(always)]
+    pub fn bytes(self) -> [u8; 8] {
+        let n = match self {
+            Fact::Always(n) => n,
+            Fact::Open | Fact::Marked => 0,
+        };
+        let [a, b, c, d] = n.to_le_bytes();
+        [self.code(), 0, 0, 0, a, b, c, d]
+    }
+
+    /// The fact in the 8 bytes of which `byte` gives each.
+    #[inline(always)]
+    pub fn read(byte: impl Fn(usize) -> u8) -> Fact {
+        let n = u32::from_le_bytes([byte(4), byte(5), byte(6), byte(7)]);
+        Fact::with_code(byte(0), n)
+    }
 }
 
 /// The certifying call: the count of rounds, with 8 bytes a variable in the certificate, or the refusal.
@@ -56,7 +90,7 @@ pub fn certify(table: &[u8], certificate: &mut [u8], scratch: &mut [u16]) -> Res
     let records = accept(table, certificate.len(), 8, scratch)?;
     let (count, store) = rounds(&records);
     for (bytes, fact) in certificate.chunks_exact_mut(8).zip(store) {
-        bytes.copy_from_slice(&certificate_bytes(fact));
+        bytes.copy_from_slice(&fact.bytes());
     }
     Ok(count)
 }

@@ -13,6 +13,7 @@ pub enum Fact {
 
 impl Fact {
     /// The order: always n lies below open, open below marked, and two different numbers are not ordered.
+    #[inline(always)]
     pub fn at_or_below(self, other: Fact) -> bool {
         match (self, other) {
             (Fact::Always(n), Fact::Always(other)) => n == other,
@@ -24,6 +25,7 @@ impl Fact {
 
     /// The lowest fact at or above both. Only two different numbers are not ordered, and above them the
     /// lowest is open.
+    #[inline(always)]
     pub fn join(self, other: Fact) -> Fact {
         if self.at_or_below(other) {
             other
@@ -35,6 +37,7 @@ impl Fact {
     }
 
     /// The fact narrowed to width w: always n becomes always (n mod 2^w), the others stay.
+    #[inline(always)]
     pub fn narrow(self, w: u32) -> Fact {
         match self {
             Fact::Always(n) => Fact::Always(remainder(n, w)),
@@ -45,26 +48,43 @@ impl Fact {
 
 /// The rule: what the record of variable i gives from a store.
 pub fn rule(records: &[Record], store: &[Fact], i: usize) -> Fact {
-    match records[i] {
-        Record::Input { kind, .. } => match kind {
+    records[i].fact(|variable| store[variable])
+}
+
+impl Record {
+    /// The fact that the record's rule gives from the store of which `store` gives each variable's fact.
+    #[inline(always)]
+    pub fn fact(self, store: impl Fn(usize) -> Fact) -> Fact {
+        match self {
+            Record::Input { kind, .. } => kind.fact(),
+            Record::Constant { n, .. } => Fact::Always(n),
+            Record::Operator { width, operator, a, b } => match (store(a), store(b)) {
+                (Fact::Always(a), Fact::Always(b)) => Fact::Always(operator.result(a, b, width)),
+                (Fact::Marked, _) | (_, Fact::Marked) => Fact::Marked,
+                _ => Fact::Open,
+            },
+            Record::Multiplexer { width, a, b, c } => {
+                multiplexer(store(a), store(b).narrow(width), store(c).narrow(width))
+            }
+            Record::Register { width, a, power_on } => store(a).narrow(width).join(Fact::Always(power_on)),
+        }
+    }
+}
+
+impl InputKind {
+    /// The fact of an input.
+    #[inline(always)]
+    pub(crate) fn fact(self) -> Fact {
+        match self {
             InputKind::Fixed(n) => Fact::Always(n),
             InputKind::Free => Fact::Open,
             InputKind::Secret => Fact::Marked,
-        },
-        Record::Constant { n, .. } => Fact::Always(n),
-        Record::Operator { width, operator, a, b } => match (store[a], store[b]) {
-            (Fact::Always(a), Fact::Always(b)) => Fact::Always(operator.result(a, b, width)),
-            (Fact::Marked, _) | (_, Fact::Marked) => Fact::Marked,
-            _ => Fact::Open,
-        },
-        Record::Multiplexer { width, a, b, c } => {
-            multiplexer(store[a], store[b].narrow(width), store[c].narrow(width))
         }
-        Record::Register { width, a, power_on } => store[a].narrow(width).join(Fact::Always(power_on)),
     }
 }
 
 /// The multiplexer's rule on the control's fact and the facts of the arms B and C, already narrowed.
+#[inline(always)]
 fn multiplexer(control: Fact, b: Fact, c: Fact) -> Fact {
     match (control, b.join(c)) {
         (Fact::Always(0), _) => c,

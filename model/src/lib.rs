@@ -1,23 +1,29 @@
 //! The reference model of document 01, written from its definitions and not for speed.
 //!
-//! In the document's order: `record` (records and their reading), `wires` (uses, loops, settling), `fact`
-//! (facts, rules, closed stores), `certify` (rounds, the certificate and its call), `machine` (power-on,
-//! poke, tick), `bench` (stimuli and the bench call) and `table` (the grounds that both calls share).
+//! In the document's order: `record` (kinds, operators, records), `fields` (the bytes of a record and their
+//! reading), `wires` (uses, loops, settling), `fact` (facts, rules, closed stores), `certify` (rounds, the
+//! certificate and its call), `machine` (power-on, poke, tick), `bench` (stimuli and the bench call) and
+//! `table` (the grounds that both calls share).
+//!
+//! The benchmark's variants read and evaluate records by what is here too. What they call again and again is
+//! always inlined, so that no call between the crates is timed.
 
 mod bench;
 mod certify;
 mod fact;
+mod fields;
 mod machine;
 mod record;
 mod table;
 mod wires;
 
-pub use bench::{bench, run, Stimulus};
+pub use bench::{bench, run, split_stimuli, Stimulus};
 pub use certify::{before_any_round, certify, round, rounds};
 pub use fact::{closed, rule, Fact};
+pub use fields::Fields;
 pub use machine::{poke, power_on, tick, value};
-pub use record::{fits, remainder, InputKind, Operator, Record};
-pub use table::{is_loop, read_records};
+pub use record::{fits, remainder, InputKind, Kind, Operator, Record};
+pub use table::{check_lengths, is_loop, read_records, SCRATCH_A_RECORD};
 pub use wires::{find_loop, settle, together};
 
 /// A refusal: the number of the ground on which work is turned down, and its place.
@@ -27,4 +33,11 @@ pub struct Refusal {
     pub ground: u32,
     /// The record for 5 to 10, the loop's length for 11, the stimulus for 14 to 17, else 0.
     pub place: usize,
+}
+
+impl Refusal {
+    /// Ground 11: so many wires use each other in a loop.
+    pub fn of_loop(length: usize) -> Refusal {
+        Refusal { ground: 11, place: length }
+    }
 }

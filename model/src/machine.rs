@@ -3,30 +3,43 @@
 
 use crate::{remainder, settle, together, InputKind, Record};
 
-/// The value that the record of variable i gives from a state. An input gives what it holds.
+/// The value that the record of variable i gives from a state.
 pub fn value(records: &[Record], state: &[u32], i: usize) -> u32 {
-    match records[i] {
-        Record::Input { .. } => state[i],
-        Record::Constant { n, .. } => n,
-        Record::Operator { width, operator, a, b } => operator.result(state[a], state[b], width),
-        Record::Multiplexer { width, a, b, c } => {
-            let taken = if state[a] != 0 { b } else { c };
-            remainder(state[taken], width)
+    records[i].value(i, |variable| state[variable])
+}
+
+impl Record {
+    /// The value that the record, of variable i, gives from the state of which `state` gives each variable's
+    /// value. An input gives what it holds.
+    #[inline(always)]
+    pub fn value(self, i: usize, state: impl Fn(usize) -> u32) -> u32 {
+        match self {
+            Record::Input { .. } => state(i),
+            Record::Constant { n, .. } => n,
+            Record::Operator { width, operator, a, b } => operator.result(state(a), state(b), width),
+            Record::Multiplexer { width, a, b, c } => {
+                let taken = if state(a) != 0 { b } else { c };
+                remainder(state(taken), width)
+            }
+            Record::Register { width, a, .. } => remainder(state(a), width),
         }
-        Record::Register { width, a, .. } => remainder(state[a], width),
+    }
+
+    /// The value at power-on: a fixed input holds n, free and secret ones 0, a register its power-on value.
+    /// A wire's follows from them, whatever it is here.
+    #[inline(always)]
+    pub fn first_value(self) -> u32 {
+        match self {
+            Record::Input { kind: InputKind::Fixed(n), .. } => n,
+            Record::Register { power_on, .. } => power_on,
+            _ => 0,
+        }
     }
 }
 
-/// The state at power-on: a fixed input holds n, free and secret ones 0, registers their power-on value,
-/// and the wires follow.
+/// The state at power-on: inputs and registers hold their first values, and the wires follow.
 pub fn power_on(records: &[Record]) -> Vec<u32> {
-    let start = |record: &Record| match *record {
-        Record::Input { kind: InputKind::Fixed(n), .. } => n,
-        Record::Register { power_on, .. } => power_on,
-        // Free and secret inputs hold 0; settling replaces every wire's value, whatever it is here.
-        _ => 0,
-    };
-    let start: Vec<u32> = records.iter().map(start).collect();
+    let start: Vec<u32> = records.iter().map(|record| record.first_value()).collect();
     settle(records, &start, value)
 }
 

@@ -1,6 +1,5 @@
 //! Document 01, "The table": a record is one of five kinds, an operator record carries one of nine
-//! operators, and an input is fixed, free or secret. One record is read from its 16 bytes and the number
-//! of records in the table, with grounds 5 to 10 tried in their order.
+//! operators, and an input is fixed, free or secret.
 
 /// One of the nine operators on the values a and b of A and B.
 #[derive(Debug, Clone, Copy, PartialEq, Eq)]
@@ -27,19 +26,34 @@ pub enum Operator {
 
 impl Operator {
     /// Each operator at the place of its code.
-    pub const BY_CODE: [Operator; 9] = [
-        Operator::Add,
-        Operator::Subtract,
-        Operator::And,
-        Operator::Or,
-        Operator::Xor,
-        Operator::Equal,
-        Operator::Less,
-        Operator::ShiftLeft,
-        Operator::ShiftRight,
-    ];
+    pub const BY_CODE: [Operator; 9] = {
+        let mut operators = [Operator::Add; 9];
+        let mut code = 0;
+        while code < operators.len() {
+            operators[code] = Operator::with_code(code as u8);
+            code += 1;
+        }
+        operators
+    };
+
+    /// The operator with this code, which is one of 0 to 8.
+    #[inline(always)]
+    pub(crate) const fn with_code(code: u8) -> Operator {
+        match code {
+            0 => Operator::Add,
+            1 => Operator::Subtract,
+            2 => Operator::And,
+            3 => Operator::Or,
+            4 => Operator::Xor,
+            5 => Operator::Equal,
+            6 => Operator::Less,
+            7 => Operator::ShiftLeft,
+            _ => Operator::ShiftRight,
+        }
+    }
 
     /// The result, worked out on whole numbers, and then its remainder by 2^w.
+    #[inline(always)]
     pub fn result(self, a: u32, b: u32, w: u32) -> u32 {
         let (a, b) = (i64::from(a), i64::from(b));
         let whole = match self {
@@ -54,7 +68,8 @@ impl Operator {
             Operator::ShiftLeft => a * (1 << b),
             Operator::ShiftRight => a / (1 << b),
         };
-        whole.rem_euclid(1 << w) as u32
+        // 2^32 is a multiple of 2^w, so that the remainder by it has the same remainder by 2^w.
+        remainder(whole as u32, w)
     }
 }
 
@@ -64,6 +79,75 @@ pub enum InputKind {
     Fixed(u32),
     Free,
     Secret,
+}
+
+impl InputKind {
+    /// How many there are.
+    const COUNT: u8 = 3;
+
+    /// The one with this code, which is one of 0 to 2, and the value n.
+    #[inline(always)]
+    pub(crate) fn with_code(code: u8, n: u32) -> InputKind {
+        match code {
+            0 => InputKind::Fixed(n),
+            1 => InputKind::Free,
+            _ => InputKind::Secret,
+        }
+    }
+}
+
+/// One of the five kinds of records.
+#[derive(Debug, Clone, Copy, PartialEq, Eq)]
+pub enum Kind {
+    Input,
+    Constant,
+    Operator,
+    Multiplexer,
+    Register,
+}
+
+impl Kind {
+    /// How many there are.
+    pub(crate) const COUNT: u8 = 5;
+
+    /// The kind with this number, which is one of 0 to 4.
+    #[inline(always)]
+    pub fn with_number(number: u8) -> Kind {
+        match number {
+            0 => Kind::Input,
+            1 => Kind::Constant,
+            2 => Kind::Operator,
+            3 => Kind::Multiplexer,
+            _ => Kind::Register,
+        }
+    }
+
+    /// How many values byte 2 can have.
+    #[inline(always)]
+    pub(crate) fn choices(self) -> u8 {
+        match self {
+            Kind::Input => InputKind::COUNT,
+            Kind::Operator => Operator::BY_CODE.len() as u8,
+            Kind::Constant | Kind::Multiplexer | Kind::Register => 1,
+        }
+    }
+
+    /// How many of the variables A, B, C are used, from A on.
+    #[inline(always)]
+    pub fn uses(self) -> usize {
+        match self {
+            Kind::Input | Kind::Constant => 0,
+            Kind::Register => 1,
+            Kind::Operator => 2,
+            Kind::Multiplexer => 3,
+        }
+    }
+
+    /// Whether its records are wires: constants, operators and multiplexers are.
+    #[inline(always)]
+    pub fn is_wire(self) -> bool {
+        matches!(self, Kind::Constant | Kind::Operator | Kind::Multiplexer)
+    }
 }
 
 /// A record read: one of five kinds, with its width, the variables A, B, C that it uses and its value n.
@@ -98,54 +182,14 @@ pub enum Record {
 }
 
 impl Record {
-    /// The record in 16 bytes of a table of so many records, or the first of grounds 5 to 10 that holds.
-    pub fn read(bytes: &[u8; 16], number_of_records: usize) -> Result<Record, u32> {
-        let [kind, width, choice, ..] = *bytes;
-        let variables = [4, 6, 8].map(|i| usize::from(u16::from_le_bytes([bytes[i], bytes[i + 1]])));
-        let n = u32::from_le_bytes([bytes[12], bytes[13], bytes[14], bytes[15]]);
-        // For each kind: how many values byte 2 can have, how many variables are used, whether n is used.
-        let (choices, uses, has_value) = match kind {
-            0 => (3, 0, choice == 0),
-            1 => (1, 0, true),
-            2 => (9, 2, false),
-            3 => (1, 3, false),
-            4 => (1, 1, true),
-            _ => return Err(5),
-        };
-        let (used, unused) = variables.split_at(uses);
-        if !(1..=32).contains(&width) {
-            return Err(6);
-        }
-        if choice >= choices {
-            return Err(7);
-        }
-        let zero_bytes = [bytes[3], bytes[10], bytes[11]] == [0, 0, 0];
-        if !zero_bytes || unused.iter().any(|&variable| variable != 0) || (!has_value && n != 0) {
-            return Err(8);
-        }
-        if used.iter().any(|&variable| variable >= number_of_records) {
-            return Err(9);
-        }
-        if has_value && !fits(n, u32::from(width)) {
-            return Err(10);
-        }
-        Ok(Record::from_fields(kind, u32::from(width), choice, variables, n))
-    }
-
-    /// The record with these fields, which meet none of grounds 5 to 10.
-    fn from_fields(kind: u8, width: u32, choice: u8, [a, b, c]: [usize; 3], n: u32) -> Record {
-        let input = |kind| Record::Input { width, kind };
-        match (kind, choice) {
-            (0, 0) => input(InputKind::Fixed(n)),
-            (0, 1) => input(InputKind::Free),
-            (0, _) => input(InputKind::Secret),
-            (1, _) => Record::Constant { width, n },
-            (2, code) => {
-                let operator = Operator::BY_CODE[usize::from(code)];
-                Record::Operator { width, operator, a, b }
-            }
-            (3, _) => Record::Multiplexer { width, a, b, c },
-            _ => Record::Register { width, a, power_on: n },
+    /// The record's kind.
+    pub fn kind(&self) -> Kind {
+        match self {
+            Record::Input { .. } => Kind::Input,
+            Record::Constant { .. } => Kind::Constant,
+            Record::Operator { .. } => Kind::Operator,
+            Record::Multiplexer { .. } => Kind::Multiplexer,
+            Record::Register { .. } => Kind::Register,
         }
     }
 
@@ -171,23 +215,25 @@ impl Record {
         variables.into_iter().flatten()
     }
 
-    /// Whether the record is a wire: a constant, an operator or a multiplexer.
+    /// Whether the record is a wire.
     pub fn is_wire(&self) -> bool {
-        matches!(self, Record::Constant { .. } | Record::Operator { .. } | Record::Multiplexer { .. })
+        self.kind().is_wire()
     }
 
     /// Whether the record is a register.
     pub fn is_register(&self) -> bool {
-        matches!(self, Record::Register { .. })
+        self.kind() == Kind::Register
     }
 }
 
 /// The remainder of n by 2^w.
+#[inline(always)]
 pub fn remainder(n: u32, w: u32) -> u32 {
     (u64::from(n) % (1u64 << w)) as u32
 }
 
 /// Whether n fits the width w: it is one of 0 to 2^w - 1.
+#[inline(always)]
 pub fn fits(n: u32, w: u32) -> bool {
     u64::from(n) < 1u64 << w
 }

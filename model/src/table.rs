@@ -8,7 +8,7 @@ use crate::{find_loop, Record, Refusal};
 const LONGEST_TABLE: usize = 65_536;
 
 /// How many 16-bit numbers of scratch ground 4 asks for a record.
-const SCRATCH_A_RECORD: usize = 4;
+pub const SCRATCH_A_RECORD: usize = 4;
 
 /// The 16 bytes of each record, or the first of grounds 1 and 2 that holds.
 fn split_records(table: &[u8]) -> Result<&[[u8; 16]], Refusal> {
@@ -18,6 +18,24 @@ fn split_records(table: &[u8]) -> Result<&[[u8; 16]], Refusal> {
     }
     if !rest.is_empty() {
         return Err(Refusal { ground: 2, place: 0 });
+    }
+    Ok(records)
+}
+
+/// The 16 bytes of each record, with the output's length, the length that it must have a record, and the
+/// scratch's length; or the first of grounds 1 to 4 that holds.
+pub fn check_lengths(
+    table: &[u8],
+    output: usize,
+    output_a_record: usize,
+    scratch: usize,
+) -> Result<&[[u8; 16]], Refusal> {
+    let records = split_records(table)?;
+    if output < output_a_record * records.len() {
+        return Err(Refusal { ground: 3, place: 0 });
+    }
+    if scratch < SCRATCH_A_RECORD * records.len() {
+        return Err(Refusal { ground: 4, place: 0 });
     }
     Ok(records)
 }
@@ -45,14 +63,7 @@ pub(crate) fn accept(
     output_a_record: usize,
     scratch: &mut [u16],
 ) -> Result<Vec<Record>, Refusal> {
-    let bytes = split_records(table)?;
-    if output < output_a_record * bytes.len() {
-        return Err(Refusal { ground: 3, place: 0 });
-    }
-    if scratch.len() < SCRATCH_A_RECORD * bytes.len() {
-        return Err(Refusal { ground: 4, place: 0 });
-    }
-    let records = read_each(bytes)?;
+    let records = read_each(check_lengths(table, output, output_a_record, scratch.len())?)?;
     let part = &mut scratch[..SCRATCH_A_RECORD * records.len()];
     part.fill(0);
     match find_loop(&records) {
@@ -61,7 +72,7 @@ pub(crate) fn accept(
             for (number, &wire) in part.iter_mut().zip(&row) {
                 *number = wire as u16;
             }
-            Err(Refusal { ground: 11, place: row.len() })
+            Err(Refusal::of_loop(row.len()))
         }
     }
 }
