@@ -1,5 +1,5 @@
-//! The scripts ./certify and ./bench, by lines of a shell in the repository's root: the exit status, and whether
-//! anything stands on standard output and on standard error.
+//! The commands bin/certify and bin/bench, by lines of a shell in the repository's root: the exit status, and
+//! whether anything stands on standard output and on standard error.
 
 use std::process::Command;
 
@@ -10,23 +10,24 @@ const ERRORS: (bool, bool) = (false, true);
 #[test]
 fn statuses() {
     for (line, status, printed) in [
-        ("./certify examples/case_a/table", 0, OUTPUT),
-        ("./certify < examples/case_a/table", 0, OUTPUT),
-        ("cat examples/case_a/table | ./certify", 0, OUTPUT),
-        ("cd examples/case_a && ../../certify table", 0, OUTPUT),
-        ("./certify < /dev/null", 0, OUTPUT),
-        ("./certify examples/latch_loop/table", 1, OUTPUT),
-        ("printf 0 | ./certify", 1, OUTPUT),
-        ("./certify --bytes examples/case_a/table", 0, OUTPUT),
-        ("./certify --bytes < examples/case_a/table", 0, OUTPUT),
-        ("./certify --bytes < /dev/null", 0, (false, false)),
-        ("./certify --bytes examples/latch_loop/table", 1, ERRORS),
-        ("printf 0 | ./certify --bytes", 1, ERRORS),
-        ("./bench examples/case_a/table examples/case_a/stimuli", 0, OUTPUT),
-        ("./bench examples/case_a/table /dev/null", 0, OUTPUT),
-        ("./bench /dev/null /dev/null", 0, (false, false)),
-        ("./bench examples/latch_loop/table /dev/null", 1, OUTPUT),
-        ("./bench examples/case_a/table examples/case_a/table", 1, OUTPUT),
+        ("bin/certify examples/case_a/table", 0, OUTPUT),
+        ("bin/certify < examples/case_a/table", 0, OUTPUT),
+        ("cat examples/case_a/table | bin/certify", 0, OUTPUT),
+        ("cd examples/case_a && ../../bin/certify table", 0, OUTPUT),
+        ("bin/certify < /dev/null", 0, OUTPUT),
+        ("bin/certify examples/latch_loop/table", 1, OUTPUT),
+        ("printf 0 | bin/certify", 1, OUTPUT),
+        ("bin/certify --bytes examples/case_a/table", 0, OUTPUT),
+        ("bin/certify --bytes < examples/case_a/table", 0, OUTPUT),
+        ("bin/certify --bytes < /dev/null", 0, (false, false)),
+        ("bin/certify --bytes examples/latch_loop/table", 1, ERRORS),
+        ("printf 0 | bin/certify --bytes", 1, ERRORS),
+        ("bin/bench examples/case_a/table examples/case_a/stimuli", 0, OUTPUT),
+        ("cd examples/case_a && ../../bin/bench table stimuli", 0, OUTPUT),
+        ("bin/bench examples/case_a/table /dev/null", 0, OUTPUT),
+        ("bin/bench /dev/null /dev/null", 0, (false, false)),
+        ("bin/bench examples/latch_loop/table /dev/null", 1, OUTPUT),
+        ("bin/bench examples/case_a/table examples/case_a/table", 1, OUTPUT),
     ] {
         assert_ends(line, status, printed);
     }
@@ -34,22 +35,22 @@ fn statuses() {
 
 #[test]
 fn neither_could_be_said() {
-    let calls = ["./certify", "./certify --bytes", "./bench examples/case_a/table"];
+    let calls = ["bin/certify", "bin/certify --bytes", "bin/bench examples/case_a/table"];
     for call in calls {
         for rest in ["no_such_file", "examples", "''", "a b c", "--help"] {
             assert_ends(&format!("{call} {rest}"), 2, ERRORS);
         }
     }
     for line in [
-        "./certify <&-",
-        "./certify --bytes <&-",
-        "./certify < examples",
-        "./certify examples/case_a/table > /dev/full",
-        "./certify --bytes examples/case_a/table > /dev/full",
-        "./certify --bytes examples/case_a/table >&-",
-        "./bench",
-        "./bench examples/case_a/table examples/case_a/stimuli > /dev/full",
-        "./bench examples/case_a/table examples/case_a/stimuli >&-",
+        "bin/certify <&-",
+        "bin/certify --bytes <&-",
+        "bin/certify < examples",
+        "bin/certify examples/case_a/table > /dev/full",
+        "bin/certify --bytes examples/case_a/table > /dev/full",
+        "bin/certify --bytes examples/case_a/table >&-",
+        "bin/bench",
+        "bin/bench examples/case_a/table examples/case_a/stimuli > /dev/full",
+        "bin/bench examples/case_a/table examples/case_a/stimuli >&-",
     ] {
         assert_ends(line, 2, ERRORS);
     }
