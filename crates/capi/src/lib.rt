@@ -1,9 +1,10 @@
 // The calls under C names, for a static library: the answer is packed into one number. Buffers must not overlap.
 ghost use mathlib.Core.Path.{_≡_};
 ghost use Prim.Native.Nat.{_^_, _<_};
-ghost use Rattle.schedule.specs.Call.{buffers};
-ghost use Rattle.capi.specs.Packed.{packedRefusal, packedCertified, packedBenched};
-ghost use Rattle.capi.specs.Packed.{LowCertified, LowBenched, CertifiesPacked, BenchesPacked};
+ghost use Rattle.call.specs.Call.{refused, lent, left};
+ghost use Rattle.certificate.specs.Promise as certified;
+ghost use Rattle.machine.specs.Promise as benched;
+ghost use Rattle.capi.specs.Packed.{packed, Low, PromisesPacked};
 use certificate::Certified;
 use certificate::certify;
 use circuit::refusal::Ground;
@@ -14,15 +15,15 @@ use machine::bench;
 // A refusal as one number.
 fn pack_refusal(ground: Ground, place: usize) -> u64
     requires { ⌜ place < 2 ^ 32 ⌝ }
-    ensures { λ r. ⌜ r ≡ packedRefusal ground place ⌝ }
+    ensures { λ r. ⌜ r ≡ packed (refused ground place) ⌝ }
 {
     ground_number(ground) * 4294967296 + place as u64
 }
 
 // A certifying call's answer as one number.
 fn pack_certified(answer: Certified) -> u64
-    requires { ⌜ LowCertified answer ⌝ }
-    ensures { λ r. ⌜ r ≡ packedCertified answer ⌝ }
+    requires { ⌜ Low (certified.answerOf answer) ⌝ }
+    ensures { λ r. ⌜ r ≡ packed (certified.answerOf answer) ⌝ }
 {
     match answer {
         Certified::Accepted(rounds) => rounds as u64,
@@ -32,8 +33,8 @@ fn pack_certified(answer: Certified) -> u64
 
 // A bench call's answer as one number.
 fn pack_benched(answer: Benched) -> u64
-    requires { ⌜ LowBenched answer ⌝ }
-    ensures { λ r. ⌜ r ≡ packedBenched answer ⌝ }
+    requires { ⌜ Low (benched.answerOf answer) ⌝ }
+    ensures { λ r. ⌜ r ≡ packed (benched.answerOf answer) ⌝ }
 {
     match answer {
         Benched::Accepted => 0,
@@ -44,9 +45,9 @@ fn pack_benched(answer: Benched) -> u64
 // The certifying call: the number of rounds, or ground * 2^32 + place.
 #[no_mangle]
 pub extern "C" fn lambdac_certify(table: &[u8], certificate: &mut [u8], scratch: &mut [u16]) -> u64
-    ensures { λ r. ⌜ CertifiesPacked
-        (buffers (now (table .entry)) (now (certificate .entry)) (now (scratch .entry))
-        (now (certificate .exit)) (now (scratch .exit))) r ⌝ }
+    ensures { λ r. ⌜ PromisesPacked certified.certifying
+        (lent (now (table .entry)) (now (certificate .entry)) (now (scratch .entry)))
+        (left (now (certificate .exit)) (now (scratch .exit))) r ⌝ }
 {
     pack_certified(certify(table, certificate, scratch))
 }
@@ -59,10 +60,9 @@ pub extern "C" fn lambdac_bench(
     values: &mut [u32],
     scratch: &mut [u16],
 ) -> u64
-    ensures { λ r. ⌜ BenchesPacked
-        (buffers (now (table .entry)) (now (values .entry)) (now (scratch .entry))
-        (now (values .exit)) (now (scratch .exit)))
-        (now (stimuli .entry)) r ⌝ }
+    ensures { λ r. ⌜ PromisesPacked (benched.benching (now (stimuli .entry)))
+        (lent (now (table .entry)) (now (values .entry)) (now (scratch .entry)))
+        (left (now (values .exit)) (now (scratch .exit))) r ⌝ }
 {
     pack_benched(bench(table, stimuli, values, scratch))
 }

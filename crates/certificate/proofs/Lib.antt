@@ -1,10 +1,2 @@
-pub mod Cells
-pub mod Rules
-pub mod Settling
-pub mod Staging
 pub mod Rounds
-pub mod Ready
-pub mod Running
-pub mod Finish
 pub mod Promise
-pub mod Fixed

@@ -1,107 +1,67 @@
--- The rounds on the certificate's bytes are the rounds of the definition: the store after each, and when they stop.
+-- The rule of facts as the engine takes it, and the rounds of a table whose wires have an order.
 -- Assumes nothing.
-use mathlib.Core.Path.{_≡_, sym, ap, _∙_, subst}
-use mathlib.Core.Bool.{true, false}
-use Prim.Native.Nat.{ℕ, _+_, _<_, _≤_}
-use native.Mathlib.Numerals.{add-one}
-use native.Mathlib.Decide.{decLt}
+use mathlib.Core.Path.{_≡_}
+use mathlib.Core.List.{List}
+use Prim.Native.Nat.{ℕ, _<_, _≤_}
 use native.Mathlib.Omega.{arith}
-use lib.Dec.{T}
-use lib.ListN.{length, getD}
-use Rattle.net.specs.Tests.{allBelow}
-use Rattle.net.specs.Net.{register, settle, step, round, after, stopped, Counts}
-use Rattle.net.proofs.Bools.{T-of, of-T, true-false, all-at, all-of}
-use Rattle.net.proofs.Settle.{Ranked, Agree, step-register, settle-register, settle-agree, step-agree}
-use Rattle.net.proofs.Rounds.{after-suc}
-use Rattle.circuit.specs.Record.{role}
-use Rattle.circuit.specs.Circuit.{Circuit, recordOf, graph, NoLoop}
-use Rattle.circuit.proofs.Tables.{Inside, circuit-ranked}
+use lib.ListN.{take}
+use Rattle.net.specs.Net.{after, stopped, Counts}
+use Rattle.net.proofs.Sums.{registers-few}
+use Rattle.buffer.specs.Store.{Layout, Holds}
+use Rattle.buffer.proofs.Store.{stands-read}
+use Rattle.circuit.specs.Circuit.{circuit, graph, NoLoop}
+use Rattle.circuit.specs.Checks.{Checked}
+use Rattle.circuit.proofs.Tables.{Inside, circuit-length, circuit-inside}
 use Rattle.fact.specs.declared.Fact.{Fact}
-use Rattle.fact.specs.Fact.{same}
+use Rattle.fact.specs.Fact.{factAt}
+use Rattle.fact.specs.Cells.{facts}
 use Rattle.fact.specs.Rule.{rule}
-use Rattle.fact.specs.Certificate.{initialStore, rounds, certificate}
-use Rattle.fact.proofs.Order.{same-eq, same-refl}
-use Rattle.fact.proofs.Certificate.{rules-local, rules-agree, rounds-counted}
-use Rattle.schedule.specs.Schedule.{registerList}
-use Rattle.schedule.proofs.Registers.{registerList-register, registerList-all}
-use Rattle.certificate.specs.Staging.{staysAt}
+use Rattle.fact.specs.Certificate.{initialStore, registers, rounds, certificate}
+use Rattle.fact.proofs.Cells.{facts-laws}
+use Rattle.fact.proofs.Certificate.{rules-local, rules-agree, rounds-counted, rounds-few}
+use Rattle.schedule.proofs.Orders.{ordered-no-loop}
+use Rattle.engine.specs.Ready.{Wired}
+use Rattle.engine.proofs.Passes.{Lawful, Gives, gives-read}
 
-module _ (c : Circuit) (inside : Inside c) (noLoop : NoLoop c) where
-  ranked : Ranked (graph c)
-  ranked = circuit-ranked c inside noLoop
+module _ {t : List ℕ} {n : ℕ} (table : Checked t n) where
+  pub lawful : Lawful t n (rule (circuit t n))
+  lawful =
+      record {
+        local = rules-local (circuit t n);
+        agree = rules-agree (circuit t n) (circuit-inside t n (table .valid));
+      }
 
-  round-register : (s : ℕ → Fact) (v : ℕ) → role (recordOf c v) ≡ register → round (graph c) (rule c) s v ≡ rule c s v
-  unfolding round
-  round-register s v e =
-      settle-register (graph c) (rule c) (step (graph c) (rule c) s) v e ∙ step-register (graph c) (rule c) s v e
+  pub gives-fact : {l : List ℕ} {v : ℕ} {f : Fact} → v < n → f ≡ rule (circuit t n) (factAt l) v
+      → Gives facts n (rule (circuit t n)) l v f
+  gives-fact {l} = gives-read facts-laws lawful (factAt l) (λ s p. stands-read p)
 
-  -- ---- one round more
+-- wherever facts live
+module _ {L : Layout Fact} {t : List ℕ} {n : ℕ} {scratch : List ℕ} {wires : ℕ} {cells : List ℕ}
+    (w : Wired L t n scratch wires cells) where
+  inside : Inside (circuit t n)
+  inside = circuit-inside t n (w .store .table .valid)
 
-  pub next-round : (k : ℕ) (s committed settled : ℕ → Fact)
-      → Agree (graph c) s (after (graph c) (rule c) k (initialStore c))
-      → Agree (graph c) committed (step (graph c) (rule c) s)
-      → Agree (graph c) settled (settle (graph c) (rule c) committed)
-      → Agree (graph c) settled (after (graph c) (rule c) (k + 1) (initialStore c))
-  unfolding round
-  next-round k s committed settled h stepped done v below =
-      done v below
-      ∙ settle-agree ranked (rule c) (rules-local c) committed
-      (step (graph c) (rule c) (after (graph c) (rule c) k (initialStore c)))
-      (λ u l.
-      stepped u l
-      ∙ step-agree (graph c) (rule c) s (after (graph c) (rule c) k (initialStore c)) h
-      (rules-agree c inside s (after (graph c) (rule c) k (initialStore c)) h) u l) v below
-      ∙ ap (λ (f : ℕ → Fact). f v) (sym (after-suc (graph c) (rule c) k (initialStore c)))
-      ∙ ap (λ (j : ℕ). after (graph c) (rule c) j (initialStore c) v) (sym (add-one k))
+  noLoop : NoLoop (circuit t n)
+  noLoop = ordered-no-loop (circuit t n) (take wires scratch) (w .order)
 
-  -- ---- when they stop
+  pub counted : Counts (graph (circuit t n)) (rule (circuit t n)) (initialStore (circuit t n)) (rounds (circuit t n))
+  counted = rounds-counted (circuit t n) inside noLoop
 
-  module _ (k : ℕ) (s : ℕ → Fact) (h : Agree (graph c) s (after (graph c) (rule c) k (initialStore c)))
-      (few : k ≤ rounds c) where
-    counted : Counts (graph c) (rule c) (initialStore c) (rounds c)
-    counted = rounds-counted c inside noLoop
+  pub rounds-small : rounds (circuit t n) ≤ 8192
+  unfolding registers
+  rounds-small =
+      omega (
+        arith,
+        rounds-few (circuit t n) inside noLoop,
+        registers-few (graph (circuit t n)),
+        circuit-length t n,
+        w .store .table .small,
+      )
 
-    -- a register stays by the test exactly where the definition's round leaves it
-    register-fact : (v : ℕ) → v < length c → role (recordOf c v) ≡ register
-        → rule c s v ≡ round (graph c) (rule c) (after (graph c) (rule c) k (initialStore c)) v
-    register-fact v below e =
-        rules-agree c inside s (after (graph c) (rule c) k (initialStore c)) h v below
-        ∙ sym (round-register (after (graph c) (rule c) k (initialStore c)) v e)
-
-    pub stopped-here : allBelow (staysAt c s) (length (registerList c)) ≡ true → k ≡ rounds c
-    stopped-here e = elim (decLt k (rounds c)) [ yes l ↦ absurd (changes l) | no l ↦ omega arith ]
-      where
-        changes : k < rounds c → ⊥
-        changes l =
-            let (v, below, is-register, differs) = counted .before k l in
-            let (j, lj, q) = registerList-all c v below is-register in
-            let stays : rule c s v ≡ s v =
-            subst (λ (u : ℕ). rule c s u ≡ s u) q
-            (same-eq _ _ (of-T _ (all-at (staysAt c s) (length (registerList c)) (T-of _ e) j lj))) in
-            differs (sym (register-fact v below is-register) ∙ stays ∙ h v below)
-
-    pub not-stopped : allBelow (staysAt c s) (length (registerList c)) ≡ false → k < rounds c
-    not-stopped e = elim (decLt k (rounds c)) [ yes l ↦ l | no l ↦ absurd (still (omega arith)) ]
-      where
-        still : k ≡ rounds c → ⊥
-        still q =
-            true-false (sym (of-T _ (all-of (staysAt c s) (length (registerList c)) (λ j l. stays j l))) ∙ e)
-          where
-            stays : (j : ℕ) → j < length (registerList c) → T (staysAt c s j)
-            stays j l =
-                let (below, is-register) = registerList-register c j l in
-                let v = getD (registerList c) j 0 in
-                let same-fact : rule c s v ≡ s v =
-                register-fact v below is-register
-                ∙ subst (λ (i : ℕ). round (graph c) (rule c) (after (graph c) (rule c) i (initialStore c)) v ≡ after
-                (graph c) (rule c) i (initialStore c) v)
-                (sym q) (counted .stops v below is-register)
-                ∙ sym (h v below) in
-                T-of _ (ap (λ (f : Fact). same f (s v)) same-fact ∙ same-refl (s v))
-
-  -- the store in which they stop is the certificate
-  pub certificate-reached : (k : ℕ) (s : ℕ → Fact) → Agree (graph c) s (after (graph c) (rule c) k (initialStore c))
-      → k ≡ rounds c
-      → Agree (graph c) s (certificate c)
-  unfolding certificate stopped rounds
-  certificate-reached k s h e v below = h v below ∙ ap (λ (j : ℕ). after (graph c) (rule c) j (initialStore c) v) e
+-- the store after as many rounds as are counted is the certificate
+pub certificate-holds : {L : Layout Fact} (t : List ℕ) (n : ℕ) {entry exit : List ℕ}
+    → Holds L n
+    (after (graph (circuit t n)) (rule (circuit t n)) (rounds (circuit t n)) (initialStore (circuit t n))) entry exit
+    → Holds L n (certificate (circuit t n)) entry exit
+unfolding certificate stopped rounds
+certificate-holds t n h = h

@@ -1,4 +1,2 @@
-pub mod Cells
 pub mod Staging
-pub mod Ready
 pub mod Promise

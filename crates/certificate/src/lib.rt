@@ -1,17 +1,16 @@
 // The certifying call on lent buffers: grounds 1 to 11, the rounds, the certificate.
 ghost use mathlib.Core.Path.{_≡_};
-ghost use mathlib.Core.List.{_++_, flatMap};
-ghost use Prim.Native.Nat.{ℕ, _+_, _*_, _/_, _≤_, _<_};
-ghost use lib.ListN.{length, take, drop, replicate};
-ghost use Rattle.net.specs.Net.{listBelow};
+ghost use mathlib.Core.List.{_++_};
+ghost use Prim.Native.Nat.{_*_};
+ghost use lib.ListN.{drop, replicate};
+ghost use Rattle.buffer.specs.Store.{Holds};
 ghost use Rattle.circuit.specs.declared.refusal.Check.the-variants.{Passed};
 ghost use Rattle.circuit.specs.Circuit.{circuit};
-ghost use Rattle.circuit.specs.Checks.{checkRecords, checkCall};
-ghost use Rattle.fact.specs.Fact.{factBytes, factAt};
+ghost use Rattle.fact.specs.Cells.{facts};
 ghost use Rattle.fact.specs.Certificate as definition;
-ghost use Rattle.schedule.specs.Schedule.{registerList, Listed, Ordered};
-ghost use Rattle.schedule.specs.Call.{buffers};
-ghost use Rattle.certificate.specs.Promise.{Certifies};
+ghost use Rattle.engine.specs.Ready.{Ready};
+ghost use Rattle.call.specs.Call.{lent, left, checked};
+ghost use Rattle.certificate.specs.Promise.{room, certifying, Certifies};
 use crate::pass::settle;
 use crate::pass::write_initial;
 use crate::round::run_rounds;
@@ -24,6 +23,11 @@ use schedule::schedule;
 
 mod pass;
 mod round;
+
+// What is asked a record of the certificate and of the scratch.
+const EACH: usize = 8;
+
+const ROOM: usize = 4;
 
 // The number of rounds of an accepted table; or the ground on which it is turned down, with its place.
 pub enum Certified {
@@ -40,36 +44,29 @@ fn certify_ordered(
     registers: usize,
     cells: &mut [u8],
 ) -> u32
-    requires { ⌜ (n * 16 ≤ length (now t)) × (n ≤ 4096)
-        × (n * 8 ≤ length (now cells)) × (n * 4 ≤ length (now scratch)) ⌝ }
-    requires { ⌜ (wires + registers ≤ n) × (registers ≡ length (registerList (circuit (now t) n))) ⌝ }
-    requires { ⌜ checkRecords (now t) n ≡ Passed ⌝ }
-    requires { ⌜ Ordered (circuit (now t) n) (take wires (now scratch)) ⌝ }
-    requires { ⌜ Listed (circuit (now t) n) (now scratch) wires ⌝ }
+    requires { ⌜ Ready facts room (now t) n (now scratch) wires registers (now cells) ⌝ }
     ensures { λ r. ⌜ r ≡ definition.rounds (circuit (now (t .entry)) n) ⌝ }
-    ensures { λ _. ⌜ now (cells .exit)
-        ≡ flatMap factBytes (listBelow (definition.certificate (circuit (now (t .entry)) n)) n)
-        ++ drop (n * 8) (now (cells .entry)) ⌝ }
-    ensures { λ _. ⌜ now (scratch .exit) ≡ replicate (n * 4) 0 ++ drop (n * 4) (now (scratch .entry)) ⌝ }
-    ensures { λ _. ⌜ ((v : ℕ) → v < n
-        → factAt (now (cells .exit)) v ≡ definition.certificate (circuit (now (t .entry)) n) v) ⌝ }
+    ensures { λ _. ⌜ Holds facts n (definition.certificate (circuit (now (t .entry)) n))
+        (now (cells .entry)) (now (cells .exit)) ⌝ }
+    ensures { λ _. ⌜ now (scratch .exit)
+        ≡ replicate (n * room) 0 ++ drop (n * room) (now (scratch .entry)) ⌝ }
 {
     write_initial(t, n, cells);
     settle(t, n, scratch, wires, cells);
     let rounds = run_rounds(t, n, scratch, wires, registers, cells);
-    clear(scratch, 0, n * 4);
+    clear(scratch, 0, n * ROOM);
     rounds
 }
 
 // The call on a table that meets none of grounds 1 to 10.
 fn certify_checked(t: &[u8], cells: &mut [u8], scratch: &mut [u16]) -> Certified
-    requires { ⌜ checkCall (now t) (length (now cells)) 8 (length (now scratch)) 4 ≡ Passed ⌝ }
+    requires { ⌜ checked certifying (lent (now t) (now cells) (now scratch)) ≡ Passed ⌝ }
     ensures { λ r. ⌜ Certifies
-        (buffers (now (t .entry)) (now (cells .entry)) (now (scratch .entry))
-        (now (cells .exit)) (now (scratch .exit))) r ⌝ }
+        (lent (now (t .entry)) (now (cells .entry)) (now (scratch .entry)))
+        (left (now (cells .exit)) (now (scratch .exit))) r ⌝ }
 {
     let n = t.len() / 16;
-    let outcome = schedule(t, n, n * 4, scratch);
+    let outcome = schedule(t, n, n * ROOM, scratch);
     match outcome {
         Outcome::Loop(size) => Certified::Refused(Ground::Loop, size),
         Outcome::Order(wires, registers) => {
@@ -81,10 +78,10 @@ fn certify_checked(t: &[u8], cells: &mut [u8], scratch: &mut [u16]) -> Certified
 // The certifying call.
 pub fn certify(table: &[u8], certificate: &mut [u8], scratch: &mut [u16]) -> Certified
     ensures { λ r. ⌜ Certifies
-        (buffers (now (table .entry)) (now (certificate .entry)) (now (scratch .entry))
-        (now (certificate .exit)) (now (scratch .exit))) r ⌝ }
+        (lent (now (table .entry)) (now (certificate .entry)) (now (scratch .entry)))
+        (left (now (certificate .exit)) (now (scratch .exit))) r ⌝ }
 {
-    let check = check_call(table, certificate.len(), 8, scratch.len(), 4);
+    let check = check_call(table, certificate.len(), EACH, scratch.len(), ROOM);
     match check {
         Check::Refused(ground, place) => Certified::Refused(ground, place),
         Check::Passed => certify_checked(table, certificate, scratch),

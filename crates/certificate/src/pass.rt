@@ -1,17 +1,13 @@
 // Passes over the facts in a certificate's bytes: the facts before any round, and the wires along their order.
 ghost use mathlib.Core.Path.{_≡_};
-ghost use Prim.Native.Nat.{ℕ, _*_, _≤_, _<_};
-ghost use lib.ListN.{length, take};
-ghost use Rattle.net.specs.Net.{listBelow};
-ghost use Rattle.circuit.specs.declared.refusal.Check.the-variants.{Passed};
-ghost use Rattle.circuit.specs.Record.{role};
+ghost use Rattle.net.specs.Net as net;
+ghost use Rattle.buffer.specs.Store.{Holds, Moves};
 ghost use Rattle.circuit.specs.Circuit.{circuit, recordOf, graph};
-ghost use Rattle.circuit.specs.Checks.{checkRecords};
+ghost use Rattle.fact.specs.Fact.{factAt};
+ghost use Rattle.fact.specs.Cells.{facts};
 ghost use Rattle.fact.specs.Rule.{rule};
 ghost use Rattle.fact.specs.Certificate.{initialFact};
-ghost use Rattle.schedule.specs.Schedule.{Ordered};
-ghost use Rattle.net.specs.Net as net;
-ghost use Rattle.certificate.specs.Cells.{facts, storeOf, Written};
+ghost use Rattle.engine.specs.Ready.{StoreLent, Evaluable, Wired};
 use circuit::number::wide;
 use circuit::record::Record;
 use circuit::record::operator_of;
@@ -45,10 +41,9 @@ fn initial_fact(r: Record) -> Fact
 
 // The facts before any round; a wire's is not looked at.
 pub fn write_initial(t: &[u8], n: usize, cells: &mut [u8])
-    requires { ⌜ (n * 16 ≤ length (now t)) × (n * 8 ≤ length (now cells)) ⌝ }
-    ensures { λ _. ⌜ Written n (now (cells .entry)) (now (cells .exit)) ⌝ }
-    ensures { λ _. ⌜ facts (now (cells .exit)) n
-        ≡ listBelow (λ v. initialFact (recordOf (circuit (now (t .entry)) n) v)) n ⌝ }
+    requires { ⌜ StoreLent facts (now t) n (now cells) ⌝ }
+    ensures { λ _. ⌜ Holds facts n (λ v. initialFact (recordOf (circuit (now (t .entry)) n) v))
+        (now (cells .entry)) (now (cells .exit)) ⌝ }
 {
     let mut i: usize = 0;
     while i < n {
@@ -59,10 +54,8 @@ pub fn write_initial(t: &[u8], n: usize, cells: &mut [u8])
 
 // What wire v's rule gives. It is no input and no register, so what is no constant and no operator is a multiplexer.
 fn wire_fact(t: &[u8], n: usize, cells: &[u8], v: usize) -> Fact
-    requires { ⌜ (n * 16 ≤ length (now t)) × (n * 8 ≤ length (now cells)) × (v < n) ⌝ }
-    requires { ⌜ checkRecords (now t) n ≡ Passed ⌝ }
-    requires { ⌜ role (recordOf (circuit (now t) n) v) ≡ net.wire ⌝ }
-    ensures { λ r. ⌜ r ≡ rule (circuit (now (t .entry)) n) (storeOf (now (cells .entry)) n) v ⌝ }
+    requires { ⌜ Evaluable facts net.wire (now t) n (now cells) v ⌝ }
+    ensures { λ r. ⌜ r ≡ rule (circuit (now (t .entry)) n) (factAt (now (cells .entry))) v ⌝ }
 {
     let kind = kind_at(t, v);
     match kind {
@@ -89,24 +82,17 @@ fn wire_fact(t: &[u8], n: usize, cells: &[u8], v: usize) -> Fact
 
 // What register v's rule gives.
 pub fn register_fact(t: &[u8], n: usize, cells: &[u8], v: usize) -> Fact
-    requires { ⌜ (n * 16 ≤ length (now t)) × (n * 8 ≤ length (now cells)) × (v < n) ⌝ }
-    requires { ⌜ checkRecords (now t) n ≡ Passed ⌝ }
-    requires { ⌜ role (recordOf (circuit (now t) n) v) ≡ net.register ⌝ }
-    ensures { λ r. ⌜ r ≡ rule (circuit (now (t .entry)) n) (storeOf (now (cells .entry)) n) v ⌝ }
+    requires { ⌜ Evaluable facts net.register (now t) n (now cells) v ⌝ }
+    ensures { λ r. ⌜ r ≡ rule (circuit (now (t .entry)) n) (factAt (now (cells .entry))) v ⌝ }
 {
     register_rule(width_at(t, v), value_at(t, v), load(cells, a_at(t, v)))
 }
 
 // The wires take their facts, one after the other along their order.
 pub fn settle(t: &[u8], n: usize, scratch: &[u16], wires: usize, cells: &mut [u8])
-    requires { ⌜ (n * 16 ≤ length (now t)) × (n * 8 ≤ length (now cells)) × (wires ≤ length (now scratch)) ⌝ }
-    requires { ⌜ checkRecords (now t) n ≡ Passed ⌝ }
-    requires { ⌜ Ordered (circuit (now t) n) (take wires (now scratch)) ⌝ }
-    requires { ⌜ Written n (now cells) (now cells) ⌝ }
-    ensures { λ _. ⌜ Written n (now (cells .entry)) (now (cells .exit)) ⌝ }
-    ensures { λ _. ⌜ ((v : ℕ) → v < n → storeOf (now (cells .exit)) n v
-        ≡ net.settle (graph (circuit (now (t .entry)) n)) (rule (circuit (now (t .entry)) n))
-        (storeOf (now (cells .entry)) n) v) ⌝ }
+    requires { ⌜ Wired facts (now t) n (now scratch) wires (now cells) ⌝ }
+    ensures { λ _. ⌜ Moves facts n (net.settle (graph (circuit (now (t .entry)) n)) (rule (circuit (now (t .entry)) n)))
+        (now (cells .entry)) (now (cells .exit)) ⌝ }
 {
     let mut i: usize = 0;
     while i < wires {

@@ -1,21 +1,20 @@
 // A round's registers: their next facts are staged, all from the same store, and then written together.
 ghost use mathlib.Core.Path.{_≡_};
 ghost use mathlib.Core.Bool.{not, _||_};
-ghost use Prim.Native.Nat.{ℕ, _+_, _*_, _≤_, _<_};
-ghost use lib.ListN.{length};
+ghost use Prim.Native.Nat.{_+_};
 ghost use Rattle.net.specs.Tests.{allBelow};
 ghost use Rattle.net.specs.Net.{step};
-ghost use Rattle.circuit.specs.declared.refusal.Check.the-variants.{Passed};
+ghost use Rattle.buffer.specs.Kept.{KeptOutside};
+ghost use Rattle.buffer.specs.Store.{numbers, Stands, Holds, Moves};
 ghost use Rattle.circuit.specs.Circuit.{circuit, graph};
-ghost use Rattle.circuit.specs.Checks.{checkRecords};
-ghost use Rattle.fact.specs.Fact as facts;
+ghost use Rattle.fact.specs.Fact.{same, factOf, factAt};
+ghost use Rattle.fact.specs.Cells.{facts};
 ghost use Rattle.fact.specs.Rule.{rule};
 ghost use Rattle.fact.specs.Certificate.{initialStore, rounds, certificate};
-ghost use Rattle.schedule.specs.Schedule.{registerList, Listed};
-ghost use Rattle.schedule.specs.Scratch.{KeptOutside};
-ghost use Rattle.certificate.specs.Cells.{storeOf, Written};
-ghost use Rattle.certificate.specs.Ready.{Ready};
-ghost use Rattle.certificate.specs.Staging.{StagedTo, staysAt};
+ghost use Rattle.engine.specs.Ready.{Ready};
+ghost use Rattle.engine.specs.Registers.{staysAt};
+ghost use Rattle.certificate.specs.Staging.{staged};
+ghost use Rattle.certificate.specs.Promise.{room};
 use crate::pass::register_fact;
 use crate::pass::settle;
 use circuit::number::wide;
@@ -27,7 +26,7 @@ use fact::cell::load;
 use fact::cell::store;
 
 fn differs(f: Fact, g: Fact) -> bool
-    ensures { λ r. ⌜ r ≡ not (facts.same f g) ⌝ }
+    ensures { λ r. ⌜ r ≡ not (same f g) ⌝ }
 {
     match f {
         Fact::Always(m) => match g {
@@ -66,16 +65,12 @@ pub fn stage(
     first: usize,
     registers: usize,
 ) -> bool
-    requires { ⌜ (n * 16 ≤ length (now t)) × (n * 8 ≤ length (now cells)) × (n ≤ 4096) ⌝ }
-    requires { ⌜ (n + n ≤ length (now scratch)) × (first + registers ≤ n) ⌝ }
-    requires { ⌜ registers ≡ length (registerList (circuit (now t) n)) ⌝ }
-    requires { ⌜ checkRecords (now t) n ≡ Passed ⌝ }
-    requires { ⌜ Listed (circuit (now t) n) (now scratch) first ⌝ }
+    requires { ⌜ Ready facts room (now t) n (now scratch) first registers (now cells) ⌝ }
     ensures { λ _. ⌜ KeptOutside n (n + n) (now (scratch .entry)) (now (scratch .exit)) ⌝ }
-    ensures { λ _. ⌜ StagedTo (circuit (now (t .entry)) n) (storeOf (now (cells .entry)) n)
-        (now (scratch .exit)) n registers ⌝ }
-    ensures { λ r. ⌜ r
-        ≡ not (allBelow (staysAt (circuit (now (t .entry)) n) (storeOf (now (cells .entry)) n)) registers) ⌝ }
+    ensures { λ _. ⌜ Stands numbers n registers (staged (circuit (now (t .entry)) n) (factAt (now (cells .entry))))
+        (now (scratch .exit)) ⌝ }
+    ensures { λ r. ⌜ r ≡ not (allBelow (staysAt (circuit (now (t .entry)) n) (rule (circuit (now (t .entry)) n)) same
+        (factAt (now (cells .entry)))) registers) ⌝ }
 {
     let mut changed = false;
     let mut j: usize = 0;
@@ -91,7 +86,7 @@ pub fn stage(
 
 // The fact of a register's staged byte: a register that is always one number is always its power-on value n.
 fn staged_fact(n: u32, byte: u16) -> Fact
-    ensures { λ f. ⌜ f ≡ facts.factOf byte n ⌝ }
+    ensures { λ f. ⌜ f ≡ factOf byte n ⌝ }
 {
     match byte {
         0 => Fact::MARKED,
@@ -103,16 +98,10 @@ fn staged_fact(n: u32, byte: u16) -> Fact
 
 // Writes the staged facts, all together.
 pub fn commit(t: &[u8], n: usize, scratch: &[u16], first: usize, registers: usize, cells: &mut [u8])
-    requires { ⌜ (n * 16 ≤ length (now t)) × (n * 8 ≤ length (now cells)) × (n ≤ 4096) ⌝ }
-    requires { ⌜ (n + n ≤ length (now scratch)) × (first + registers ≤ n) ⌝ }
-    requires { ⌜ registers ≡ length (registerList (circuit (now t) n)) ⌝ }
-    requires { ⌜ Listed (circuit (now t) n) (now scratch) first ⌝ }
-    requires { ⌜ StagedTo (circuit (now t) n) (storeOf (now cells) n) (now scratch) n registers ⌝ }
-    requires { ⌜ Written n (now cells) (now cells) ⌝ }
-    ensures { λ _. ⌜ Written n (now (cells .entry)) (now (cells .exit)) ⌝ }
-    ensures { λ _. ⌜ ((v : ℕ) → v < n → storeOf (now (cells .exit)) n v
-        ≡ step (graph (circuit (now (t .entry)) n)) (rule (circuit (now (t .entry)) n))
-        (storeOf (now (cells .entry)) n) v) ⌝ }
+    requires { ⌜ Ready facts room (now t) n (now scratch) first registers (now cells) ⌝ }
+    requires { ⌜ Stands numbers n registers (staged (circuit (now t) n) (factAt (now cells))) (now scratch) ⌝ }
+    ensures { λ _. ⌜ Moves facts n (step (graph (circuit (now (t .entry)) n)) (rule (circuit (now (t .entry)) n)))
+        (now (cells .entry)) (now (cells .exit)) ⌝ }
 {
     let mut j: usize = 0;
     while j < registers {
@@ -132,12 +121,11 @@ pub fn run_rounds(
     registers: usize,
     cells: &mut [u8],
 ) -> u32
-    requires { ⌜ Ready (now t) n (now scratch) (now cells) wires registers ⌝ }
-    requires { ⌜ ((v : ℕ) → v < n → storeOf (now cells) n v ≡ initialStore (circuit (now t) n) v) ⌝ }
+    requires { ⌜ Ready facts room (now t) n (now scratch) wires registers (now cells) ⌝ }
+    requires { ⌜ Stands facts 0 n (initialStore (circuit (now t) n)) (now cells) ⌝ }
     ensures { λ _. ⌜ KeptOutside n (n + n) (now (scratch .entry)) (now (scratch .exit)) ⌝ }
-    ensures { λ _. ⌜ Written n (now (cells .entry)) (now (cells .exit)) ⌝ }
-    ensures { λ _. ⌜ ((v : ℕ) → v < n
-        → storeOf (now (cells .exit)) n v ≡ certificate (circuit (now (t .entry)) n) v) ⌝ }
+    ensures { λ _. ⌜ Holds facts n (certificate (circuit (now (t .entry)) n))
+        (now (cells .entry)) (now (cells .exit)) ⌝ }
     ensures { λ r. ⌜ r ≡ rounds (circuit (now (t .entry)) n) ⌝ }
 {
     let mut count: u32 = 0;

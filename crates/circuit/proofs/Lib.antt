@@ -10,3 +10,4 @@ pub mod Scan
 pub mod Values
 pub mod Stimuli
 pub mod Places
+pub mod Evaluation

@@ -38,8 +38,9 @@ sub-add w a b =
     ∙ add-mul-mod-self-right a (b / 2 ^ w) (2 ^ w)
 
 -- the remainder by a smaller power of two of a remainder by a greater
-pub narrow-narrow : (n k w : ℕ) → w ≤ k → n % 2 ^ k % 2 ^ w ≡ n % 2 ^ w
-narrow-narrow n k w h = subst (λ (m : ℕ). n % 2 ^ m % 2 ^ w ≡ n % 2 ^ w) (sub-add-cancel h) (mod-mod-pow n (k - w) w)
+pub remainder-narrower : (n k w : ℕ) → w ≤ k → n % 2 ^ k % 2 ^ w ≡ n % 2 ^ w
+remainder-narrower n k w h =
+    subst (λ (m : ℕ). n % 2 ^ m % 2 ^ w ≡ n % 2 ^ w) (sub-add-cancel h) (mod-mod-pow n (k - w) w)
 
 -- what with b added gives a, by remainders, is a - b
 pub sub-unique : (w a b r : ℕ) → (r + b) % 2 ^ w ≡ a % 2 ^ w → r % 2 ^ w ≡ result Sub w a b
@@ -72,14 +73,14 @@ result-of-code ShiftRight w a b = refl
 module _ (a b r : ℕ) where
   pub add-wraps : r ≡ (a + b) % 2 ^ 32 → (w : ℕ) → w ≤ 32 → r % 2 ^ w ≡ result Add w a b
   unfolding result
-  add-wraps e w h = rw e (narrow-narrow (a + b) 32 w h)
+  add-wraps e w h = rw e (remainder-narrower (a + b) 32 w h)
 
   pub sub-wraps : (r + b) % 2 ^ 32 ≡ a → (w : ℕ) → w ≤ 32 → r % 2 ^ w ≡ result Sub w a b
-  sub-wraps e w h = sub-unique w a b r (sym (narrow-narrow (r + b) 32 w h) ∙ ap (λ x. x % 2 ^ w) e)
+  sub-wraps e w h = sub-unique w a b r (sym (remainder-narrower (r + b) 32 w h) ∙ ap (λ x. x % 2 ^ w) e)
 
   pub shift-left-wraps : r ≡ apply ShiftLeft 32 a b % 2 ^ 32 → (w : ℕ) → w ≤ 32 → r % 2 ^ w ≡ result ShiftLeft w a b
   unfolding result
-  shift-left-wraps e w h = rw e (narrow-narrow (apply ShiftLeft w a b) 32 w h)
+  shift-left-wraps e w h = rw e (remainder-narrower (apply ShiftLeft w a b) 32 w h)
 
   pub shift-right-wraps : r ≡ apply ShiftRight 32 a b → (w : ℕ) → w ≤ 32 → r % 2 ^ w ≡ result ShiftRight w a b
   unfolding result

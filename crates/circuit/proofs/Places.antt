@@ -1,10 +1,10 @@
--- The numbers of refusals: a ground has its own, from 1 to 17; the place of one of grounds 1 to 10 is 0 or a record of
--- the table, that of one of 12 to 17 is 0 or a stimulus of the list.
+-- The numbers of refusals: a ground has its own, of at most two digits; the place of one of grounds 1 to 10 is 0 or a
+-- record of the table, that of one of 12 to 17 is 0 or a stimulus of the list.
 -- Assumes nothing.
-use mathlib.Core.Path.{_≡_, refl, sym, ap, ap₂, _∙_}
+use mathlib.Core.Path.{_≡_, refl, sym, ap, ap₂, _∙_, subst}
 use mathlib.Core.Bool.{Bool, true, false, not, _&&_, _||_}
 use mathlib.Core.List.{List, [], _∷_}
-use Prim.Native.Nat.{ℕ, zero, suc, _+_, _-_, _*_, _/_, _%_, _^_, _≤_, zero-le}
+use Prim.Native.Nat.{ℕ, zero, suc, _+_, _-_, _*_, _/_, _%_, _^_, _≤_}
 use native.Mathlib.Omega.{arith}
 use borrow.Author.Tests.{ltb-false}
 use lib.Dec.{eqb, leb, ltb}
@@ -24,7 +24,7 @@ use Rattle.circuit.specs.Refusal.{groundNumber, refuse, Finds, _then_}
 use Rattle.circuit.specs.Record.{width, uses, inputOf}
 use Rattle.circuit.specs.Reading.{fieldsAt, decode, codes, unused, refuseRecord, readRecord}
 use Rattle.circuit.specs.Circuit.{Circuit, recordOf}
-use Rattle.circuit.specs.Checks.{checkLength, checkOutput, checkScratch, atRecord, checkRecordsFrom, checkRecords, checkCall}
+use Rattle.circuit.specs.Checks.{checkLength, checkOutput, checkScratch, atRecord, checkRecordsFrom, checkRecords, Asked, checkOutputs, checkCall}
 use Rattle.circuit.specs.Stimuli.{badStimulus, stimulusAt, readFrom, isInput, fixedToOther, readStimulus, checkStimulus, checkStimuliFrom, checkStimuli}
 use Rattle.circuit.proofs.Passing.{length-most}
 
@@ -55,7 +55,7 @@ numbered number = getD grounds (number - 1) FixedInput
 
 -- a ground has its number's place among them
 ground-number : (ground : Ground)
-    → (numbered (groundNumber ground) ≡ ground) × (1 ≤ groundNumber ground) × (groundNumber ground ≤ 17)
+    → (numbered (groundNumber ground) ≡ ground) × (1 ≤ groundNumber ground) × (groundNumber ground ≤ 99)
 ground-number TableTooLong = (refl, omega arith, omega arith)
 ground-number TableNotWhole = (refl, omega arith, omega arith)
 ground-number OutputShort = (refl, omega arith, omega arith)
@@ -74,7 +74,7 @@ ground-number NotAnInput = (refl, omega arith, omega arith)
 ground-number PokeTooWide = (refl, omega arith, omega arith)
 ground-number FixedInput = (refl, omega arith, omega arith)
 
-pub ground-range : (ground : Ground) → (1 ≤ groundNumber ground) × (groundNumber ground ≤ 17)
+pub ground-range : (ground : Ground) → (1 ≤ groundNumber ground) × (groundNumber ground ≤ 99)
 ground-range ground = let n = ground-number ground in (n .1, n .2)
 
 -- a ground's number tells it
@@ -86,148 +86,138 @@ pub refused-finds : {c : Check} {ground : Ground} {place : ℕ} → c ≡ check.
     → Finds c (groundNumber ground) place
 refused-finds e = rw e (refl, refl)
 
-pub finds-refused : (c : Check) (ground : Ground) (place : ℕ) → Finds c (groundNumber ground) place
+finds-refused : (c : Check) (ground : Ground) (place : ℕ) → Finds c (groundNumber ground) place
     → c ≡ check.Refused ground place
 finds-refused check.Passed ground place f = absurd f
 finds-refused (check.Refused other at) ground place f = ap₂ check.Refused (ground-told other ground (f .0)) (f .1)
 
 -- ---- the ground and the place of a refusal
 
--- a number of a refusal, 0 where there is none
-abbrev numberOf : (Ground → ℕ → ℕ) → Check → ℕ
-numberOf m check.Passed = 0
-numberOf m (check.Refused ground place) = m ground place
+-- what P says of a ground and a place holds of a check's refusal, if it is one
+abbrev pub Refusals : (Ground → ℕ → Type 0) → Check → Type 0
+Refusals P check.Passed = Unit {0}
+Refusals P (check.Refused ground place) = P ground place
 
-abbrev pub placeOf : Check → ℕ
-placeOf c = numberOf (λ ground place. place) c
+-- so it holds of what the check finds
+pub refusal-found : (P : Ground → ℕ → Type 0) (c : Check) (ground : Ground) (place : ℕ) → Refusals P c
+    → Finds c (groundNumber ground) place → P ground place
+refusal-found P c ground place h f = subst (λ (x : Check). Refusals P x) (finds-refused c ground place f) h
 
-abbrev pub groundOf : Check → ℕ
-groundOf c = numberOf (λ ground place. groundNumber ground) c
+pub refusals-weaken : (P Q : Ground → ℕ → Type 0) (c : Check)
+    → ((ground : Ground) (place : ℕ) → P ground place → Q ground place) → Refusals P c → Refusals Q c
+refusals-weaken P Q check.Passed w h = tt
+refusals-weaken P Q (check.Refused ground place) w h = w ground place h
 
--- how far a ground is from the last
-abbrev pub groundLeft : Check → ℕ
-groundLeft c = numberOf (λ ground place. 17 - groundNumber ground) c
-
-module _ (m : Ground → ℕ → ℕ) (most : ℕ) where
+module _ (P : Ground → ℕ → Type 0) where
   -- the first refusal of two checks is that of one of them, of the second only where the first passes
-  then-most : (a b : Check) → numberOf m a ≤ most → (a ≡ check.Passed → numberOf m b ≤ most)
-      → numberOf m (a then b) ≤ most
-  then-most check.Passed b h k = k refl
-  then-most (check.Refused ground place) b h k = h
+  then-refusals : (a b : Check) → Refusals P a → (a ≡ check.Passed → Refusals P b) → Refusals P (a then b)
+  then-refusals check.Passed b h k = k refl
+  then-refusals (check.Refused ground place) b h k = h
 
-  refuse-most : (ground : Ground) (place : ℕ) (b : Bool) (next : Check) → m ground place ≤ most
-      → (b ≡ false → numberOf m next ≤ most)
-      → numberOf m (refuse ground place b next) ≤ most
-  refuse-most ground place true next h k = h
-  refuse-most ground place false next h k = k refl
+  refuse-refusals : (ground : Ground) (place : ℕ) (b : Bool) (next : Check) → P ground place
+      → (b ≡ false → Refusals P next) → Refusals P (refuse ground place b next)
+  refuse-refusals ground place true next h k = h
+  refuse-refusals ground place false next h k = k refl
 
 -- ---- grounds 1 to 10
 
-module _ (m : Ground → ℕ → ℕ) (most end : ℕ)
-    (small : (ground : Ground) (place : ℕ) → groundNumber ground ≤ 10 → place ≤ end → m ground place ≤ most) where
-  -- whatever the six tests of a record say
-  tests-most : (b₅ b₆ b₇ b₈ b₉ b₁₀ : Bool) (r : Record) (i : ℕ) → i ≤ end
-      → numberOf m
-      (atRecord
-      (refuseRecord UnknownKind b₅
-      (refuseRecord BadWidth b₆
-      (refuseRecord UnknownCode b₇
-      (refuseRecord UnusedNotZero b₈
-      (refuseRecord NoSuchVariable b₉
-      (refuseRecord ValueTooWide b₁₀ (Read r))))))) i)
-      ≤ most
-  tests-most true b₆ b₇ b₈ b₉ b₁₀ r i h = small UnknownKind i (omega arith) h
-  tests-most false true b₇ b₈ b₉ b₁₀ r i h = small BadWidth i (omega arith) h
-  tests-most false false true b₈ b₉ b₁₀ r i h = small UnknownCode i (omega arith) h
-  tests-most false false false true b₉ b₁₀ r i h = small UnusedNotZero i (omega arith) h
-  tests-most false false false false true b₁₀ r i h = small NoSuchVariable i (omega arith) h
-  tests-most false false false false false true r i h = small ValueTooWide i (omega arith) h
-  tests-most false false false false false false r i h = zero-le
+-- one of them, at a place up to `end`
+abbrev OfTable : ℕ → Ground → ℕ → Type 0
+OfTable end ground place = (groundNumber ground ≤ 10) × (place ≤ end)
 
-  read-most : (f : Fields) (n i : ℕ) → i ≤ end → numberOf m (atRecord (readRecord f n) i) ≤ most
-  unfolding readRecord
-  read-most f n i h =
-      tests-most (ltb 4 (f .kind)) (eqb (f .width) 0 || ltb 32 (f .width)) (leb (codes (f .kind)) (f .code))
-      (not (every (λ x. eqb x 0) (f .byte3 ∷ f .bytes10 ∷ unused (decode f) f)))
-      (not (every (λ v. ltb v n) (uses (decode f)))) (leb (2 ^ f .width) (f .value)) (decode f) i h
+-- whatever the six tests of a record say
+tests-refusals : (b₅ b₆ b₇ b₈ b₉ b₁₀ : Bool) (r : Record) (i end : ℕ) → i ≤ end
+    → Refusals (OfTable end)
+    (atRecord
+    (refuseRecord UnknownKind b₅
+    (refuseRecord BadWidth b₆
+    (refuseRecord UnknownCode b₇
+    (refuseRecord UnusedNotZero b₈
+    (refuseRecord NoSuchVariable b₉
+    (refuseRecord ValueTooWide b₁₀ (Read r))))))) i)
+tests-refusals true b₆ b₇ b₈ b₉ b₁₀ r i end h = (omega arith, h)
+tests-refusals false true b₇ b₈ b₉ b₁₀ r i end h = (omega arith, h)
+tests-refusals false false true b₈ b₉ b₁₀ r i end h = (omega arith, h)
+tests-refusals false false false true b₉ b₁₀ r i end h = (omega arith, h)
+tests-refusals false false false false true b₁₀ r i end h = (omega arith, h)
+tests-refusals false false false false false true r i end h = (omega arith, h)
+tests-refusals false false false false false false r i end h = tt
 
-  records-most : (t : List ℕ) (n count i : ℕ) → i + count ≤ end → numberOf m (checkRecordsFrom t n count i) ≤ most
-  unfolding checkRecordsFrom
-  records-most t n zero i h = zero-le
-  records-most t n (suc count) i h =
-      then-most m most (atRecord (readRecord (fieldsAt t (i * 16)) n) i) _
-      (read-most (fieldsAt t (i * 16)) n i (omega arith))
-      (λ e. records-most t n count (i + 1) (omega arith))
+record-refusals : (f : Fields) (n i end : ℕ) → i ≤ end → Refusals (OfTable end) (atRecord (readRecord f n) i)
+unfolding readRecord
+record-refusals f n =
+    tests-refusals (ltb 4 (f .kind)) (eqb (f .width) 0 || ltb 32 (f .width)) (leb (codes (f .kind)) (f .code))
+    (not (every (λ x. eqb x 0) (f .byte3 ∷ f .bytes10 ∷ unused (decode f) f)))
+    (not (every (λ v. ltb v n) (uses (decode f)))) (leb (2 ^ f .width) (f .value)) (decode f)
 
-call-most : (m : Ground → ℕ → ℕ) (most : ℕ)
-    → ((ground : Ground) (place : ℕ) → groundNumber ground ≤ 10 → place ≤ 4096 → m ground place ≤ most)
-    → (t : List ℕ) (output each scratch room : ℕ)
-    → numberOf m (checkCall t output each scratch room) ≤ most
+records-refusals : (t : List ℕ) (n count i end : ℕ) → i + count ≤ end
+    → Refusals (OfTable end) (checkRecordsFrom t n count i)
+unfolding checkRecordsFrom
+records-refusals t n zero i end h = tt
+records-refusals t n (suc count) i end h =
+    then-refusals (OfTable end) (atRecord (readRecord (fieldsAt t (i * 16)) n) i) _
+    (record-refusals (fieldsAt t (i * 16)) n i end (omega arith))
+    (λ e. records-refusals t n count (i + 1) end (omega arith))
+
+outputs-refusals : (n end : ℕ) (outputs : List Asked) (next : Check) → Refusals (OfTable end) next
+    → Refusals (OfTable end) (checkOutputs n outputs next)
+outputs-refusals n end [] next h = h
+outputs-refusals n end (o ∷ os) next h =
+    then-refusals (OfTable end) (checkOutput (o .lent) (n * o .each)) _
+    (refuse-refusals (OfTable end) OutputShort 0 (ltb (o .lent) (n * o .each)) check.Passed (omega arith, omega arith)
+    (λ _. tt))
+    (λ _. outputs-refusals n end os next h)
+
+pub call-refusals : (t : List ℕ) (outputs : List Asked) (scratch : Asked)
+    → Refusals (λ ground place. (groundNumber ground ≤ 10) × (place ≤ 4096)) (checkCall t outputs scratch)
 unfolding checkRecords
-call-most m most small t output each scratch room =
-    then-most m most (checkLength (length t)) _
-    (refuse-most m most TableTooLong 0 (ltb 65536 (length t)) _ (small TableTooLong 0 (omega arith) (omega arith))
-    (λ _. refuse-most m most TableNotWhole 0 (not (eqb (length t % 16) 0)) check.Passed
-    (small TableNotWhole 0 (omega arith) (omega arith)) (λ _. zero-le)))
+call-refusals t outputs scratch =
+    then-refusals (OfTable 4096) (checkLength (length t)) _
+    (refuse-refusals (OfTable 4096) TableTooLong 0 (ltb 65536 (length t)) _ (omega arith, omega arith)
+    (λ _. refuse-refusals (OfTable 4096) TableNotWhole 0 (not (eqb (length t % 16) 0)) check.Passed
+    (omega arith, omega arith)
+    (λ _. tt)))
     (λ e.
     let bytes : length t ≤ 65536 = length-most (length t) e in
-    then-most m most (checkOutput output (length t / 16 * each)) _
-    (refuse-most m most OutputShort 0 (ltb output (length t / 16 * each)) check.Passed
-    (small OutputShort 0 (omega arith) (omega arith)) (λ _. zero-le))
-    (λ _.
-    then-most m most (checkScratch scratch (length t / 16 * room)) _
-    (refuse-most m most ScratchShort 0 (ltb scratch (length t / 16 * room)) check.Passed
-    (small ScratchShort 0 (omega arith) (omega arith)) (λ _. zero-le))
-    (λ _. records-most m most 4096 small t (length t / 16) (length t / 16) 0 (omega arith))))
-
-pub call-place : (t : List ℕ) (output each scratch room : ℕ) → placeOf (checkCall t output each scratch room) ≤ 4096
-call-place = call-most (λ ground place. place) 4096 (λ ground place h k. k)
-
-pub call-ground : (t : List ℕ) (output each scratch room : ℕ) → groundOf (checkCall t output each scratch room) ≤ 10
-call-ground = call-most (λ ground place. groundNumber ground) 10 (λ ground place h k. h)
+    outputs-refusals (length t / 16) 4096 outputs _
+    (then-refusals (OfTable 4096) (checkScratch (scratch .lent) (length t / 16 * scratch .each)) _
+    (refuse-refusals (OfTable 4096) ScratchShort 0 (ltb (scratch .lent) (length t / 16 * scratch .each)) check.Passed
+    (omega arith, omega arith) (λ _. tt))
+    (λ _. records-refusals t (length t / 16) (length t / 16) 0 4096 (omega arith))))
 
 -- ---- grounds 12 to 17
 
-module _ (m : Ground → ℕ → ℕ) (most end : ℕ)
-    (small : (ground : Ground) (place : ℕ) → 12 ≤ groundNumber ground → place ≤ end → m ground place ≤ most) where
-  read-stimulus-most : (c : Circuit) (s : List ℕ) (at i : ℕ) (b : Bool) → i ≤ end
-      → numberOf m (checkStimulus c (readFrom b (stimulusAt s at)) i) ≤ most
-  read-stimulus-most c s at i true h = small BadStimulus i (omega arith) h
-  read-stimulus-most c s at i false h = go (stimulusAt s at)
-    where
-      go : (x : Stimulus) → numberOf m (checkStimulus c (stimulus.Read x) i) ≤ most
-      go Tick = zero-le
-      go (Poke v x) =
-          refuse-most m most NotAnInput i (not (ltb v (length c) && isInput (inputOf (recordOf c v)))) _
-          (small NotAnInput i (omega arith) h)
-          (λ _. refuse-most m most PokeTooWide i (leb (2 ^ width (recordOf c v)) x) _
-          (small PokeTooWide i (omega arith) h)
-          (λ _. refuse-most m most FixedInput i (fixedToOther (inputOf (recordOf c v)) x) check.Passed
-          (small FixedInput i (omega arith) h) (λ _. zero-le)))
+-- one that is tried after ground 11, at a place up to `end`
+abbrev OfList : ℕ → Ground → ℕ → Type 0
+OfList end ground place = (12 ≤ groundNumber ground) × (place ≤ end)
 
-  each-most : (c : Circuit) (s : List ℕ) (count i : ℕ) → i + count ≤ end
-      → numberOf m (checkStimuliFrom c s count i) ≤ most
-  unfolding checkStimuliFrom
-  each-most c s zero i h = zero-le
-  each-most c s (suc count) i h =
-      then-most m most (checkStimulus c (readStimulus s (i * 8)) i) _
-      (read-stimulus-most c s (i * 8) i (badStimulus s (i * 8)) (omega arith))
-      (λ e. each-most c s count (i + 1) (omega arith))
+stimulus-refusals : (c : Circuit) (s : List ℕ) (at i end : ℕ) (b : Bool) → i ≤ end
+    → Refusals (OfList end) (checkStimulus c (readFrom b (stimulusAt s at)) i)
+stimulus-refusals c s at i end true h = (omega arith, h)
+stimulus-refusals c s at i end false h = go (stimulusAt s at)
+  where
+    go : (x : Stimulus) → Refusals (OfList end) (checkStimulus c (stimulus.Read x) i)
+    go Tick = tt
+    go (Poke v x) =
+        refuse-refusals (OfList end) NotAnInput i (not (ltb v (length c) && isInput (inputOf (recordOf c v)))) _
+        (omega arith, h)
+        (λ _. refuse-refusals (OfList end) PokeTooWide i (leb (2 ^ width (recordOf c v)) x) _ (omega arith, h)
+        (λ _. refuse-refusals (OfList end) FixedInput i (fixedToOther (inputOf (recordOf c v)) x) check.Passed
+        (omega arith, h) (λ _. tt)))
 
-stimuli-most : (m : Ground → ℕ → ℕ) (most : ℕ)
-    → ((ground : Ground) (place : ℕ) → 12 ≤ groundNumber ground → place ≤ 4096 → m ground place ≤ most)
-    → (c : Circuit) (s : List ℕ)
-    → numberOf m (checkStimuli c s) ≤ most
+each-refusals : (c : Circuit) (s : List ℕ) (count i end : ℕ) → i + count ≤ end
+    → Refusals (OfList end) (checkStimuliFrom c s count i)
+unfolding checkStimuliFrom
+each-refusals c s zero i end h = tt
+each-refusals c s (suc count) i end h =
+    then-refusals (OfList end) (checkStimulus c (readStimulus s (i * 8)) i) _
+    (stimulus-refusals c s (i * 8) i end (badStimulus s (i * 8)) (omega arith))
+    (λ e. each-refusals c s count (i + 1) end (omega arith))
+
+pub stimuli-refusals : (c : Circuit) (s : List ℕ)
+    → Refusals (λ ground place. (12 ≤ groundNumber ground) × (place ≤ 4096)) (checkStimuli c s)
 unfolding checkStimuli
-stimuli-most m most small c s =
-    refuse-most m most StimuliNotWhole 0 (not (eqb (length s % 8) 0)) _
-    (small StimuliNotWhole 0 (omega arith) (omega arith))
-    (λ _. refuse-most m most TooManyStimuli 0 (ltb 4096 (length s / 8)) _
-    (small TooManyStimuli 0 (omega arith) (omega arith))
-    (λ few. each-most m most 4096 small c s (length s / 8) 0 (omega (arith, ltb-false 4096 (length s / 8) few))))
-
-pub stimuli-place : (c : Circuit) (s : List ℕ) → placeOf (checkStimuli c s) ≤ 4096
-stimuli-place = stimuli-most (λ ground place. place) 4096 (λ ground place h k. k)
-
-pub stimuli-ground : (c : Circuit) (s : List ℕ) → groundLeft (checkStimuli c s) ≤ 5
-stimuli-ground = stimuli-most (λ ground place. 17 - groundNumber ground) 5 (λ ground place h k. omega arith)
+stimuli-refusals c s =
+    refuse-refusals (OfList 4096) StimuliNotWhole 0 (not (eqb (length s % 8) 0)) _ (omega arith, omega arith)
+    (λ _. refuse-refusals (OfList 4096) TooManyStimuli 0 (ltb 4096 (length s / 8)) _ (omega arith, omega arith)
+    (λ few. each-refusals c s (length s / 8) 0 4096 (omega (arith, ltb-false 4096 (length s / 8) few))))

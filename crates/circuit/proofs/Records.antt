@@ -6,7 +6,7 @@ use mathlib.Core.Bool.{Bool, true, false, not, _&&_, _||_, and-true}
 use mathlib.Core.List.{[], _∷_}
 use Prim.Native.Nat.{ℕ, _^_, _<_, _≤_}
 use native.Mathlib.Omega.{arith}
-use borrow.Author.Tests.{ltb-false, leb-false, eqb-false, not-false, lt-ltb, le-ltb}
+use borrow.Author.Tests.{ltb-false, leb-false, not-false, lt-ltb, le-ltb}
 use lib.Dec.{eqb, leb, ltb}
 use Rattle.net.specs.Tests.{every}
 use Rattle.circuit.specs.declared.record.Fields.{Fields}
@@ -34,7 +34,6 @@ decode-encode (Register w a n) = refl
 -- none of grounds 5 to 10 holds of a record's fields, among n records
 pub record Valid (f : Fields) (n : ℕ) : Type 0 where
   pub kind : f .kind ≤ 4
-  pub width-some : 0 < f .width
   pub width-most : f .width ≤ 32
   pub code : f .code < codes (f .kind)
   pub zeros : every (λ x. eqb x 0) (f .byte3 ∷ f .bytes10 ∷ unused (decode f) f) ≡ true
@@ -54,9 +53,6 @@ or-false false b e = (refl, e)
 same-record : {x y : Record} → Read x ≡ Read y → x ≡ y
 same-record e = cc
 
-positive : (n : ℕ) → (n ≡ 0 → ⊥) → 0 < n
-positive n ne = omega arith
-
 pub read-valid : (f : Fields) (n : ℕ) (r : Record) → readRecord f n ≡ Read r → Valid f n × (r ≡ decode f)
 unfolding readRecord
 read-valid f n r e =
@@ -70,7 +66,6 @@ read-valid f n r e =
     let w = or-false (eqb (f .width) 0) (ltb 32 (f .width)) (p6 .0) in (
       record {
         kind = ltb-false 4 (f .kind) (p5 .0);
-        width-some = positive (f .width) (eqb-false (f .width) 0 (w .0));
         width-most = ltb-false 32 (f .width) (w .1);
         code = leb-false (codes (f .kind)) (f .code) (p7 .0);
         zeros = not-false _ (p8 .0);

@@ -1,8 +1,10 @@
--- The checks that a service puts in order with `then`: the table's length, the lent buffers, the records.
+-- The checks that a service puts in order with `then`: the table's length, the lent buffers, the records; and what a
+-- table is whose records passed.
 -- Assumes nothing.
+use mathlib.Core.Path.{_≡_}
 use mathlib.Core.Bool.{not}
-use mathlib.Core.List.{List}
-use Prim.Native.Nat.{ℕ, zero, suc, _+_, _*_, _/_, _%_}
+use mathlib.Core.List.{List, [], _∷_}
+use Prim.Native.Nat.{ℕ, zero, suc, _+_, _*_, _/_, _%_, _≤_}
 use lib.Dec.{eqb, ltb}
 use lib.ListN.{length}
 use Rattle.circuit.specs.declared.refusal.Ground.the-variants.{TableTooLong, TableNotWhole, OutputShort, ScratchShort}
@@ -46,11 +48,26 @@ unfoldable pub checkRecords : List ℕ → ℕ → Check
 unfolding checkRecordsFrom
 checkRecords t n = checkRecordsFrom t n n 0
 
--- grounds 1 to 10 of a call on a table: what is lent of its output, of which `each` is asked a record, and of its
--- scratch, of which `room` is asked a record
-abbrev pub checkCall : List ℕ → ℕ → ℕ → ℕ → ℕ → Check
-checkCall t output each scratch room =
+-- the first n records of these bytes passed the checks
+pub record Checked (t : List ℕ) (n : ℕ) : Type 0 where
+  pub small : n ≤ 4096
+  pub long : n * 16 ≤ length t
+  pub valid : checkRecords t n ≡ check.Passed
+
+-- how long a lent buffer is, and how much of it is asked a record
+pub record Asked : Type 0 where
+  pub lent : ℕ
+  pub each : ℕ
+
+-- ground 3 of each output in turn, for n records; then what is tried next
+abbrev pub checkOutputs : ℕ → List Asked → Check → Check
+checkOutputs n [] next = next
+checkOutputs n (o ∷ os) next = checkOutput (o .lent) (n * o .each) then checkOutputs n os next
+
+-- grounds 1 to 10 of a call on a table, with what it asks of its outputs and of its scratch
+abbrev pub checkCall : List ℕ → List Asked → Asked → Check
+checkCall t outputs scratch =
     checkLength (length t)
-    then checkOutput output (length t / 16 * each)
-    then checkScratch scratch (length t / 16 * room)
-    then checkRecords t (length t / 16)
+    then checkOutputs (length t / 16) outputs
+    (checkScratch (scratch .lent) (length t / 16 * scratch .each)
+    then checkRecords t (length t / 16))

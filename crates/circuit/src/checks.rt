@@ -1,5 +1,6 @@
 // The checks that a service puts in order: the table's length, the lent buffers, the records.
 ghost use mathlib.Core.Path.{_≡_};
+ghost use mathlib.Core.List.{[], _∷_};
 ghost use Prim.Native.Nat.{_*_, _≤_};
 ghost use lib.ListN.{length};
 ghost use Rattle.circuit.specs.Checks.{checkLength, checkOutput, checkScratch, atRecord, checkRecords, checkCall};
@@ -72,7 +73,8 @@ pub fn check_records(t: &[u8], n: usize) -> Check
 // scratch, of which `room` is asked a record.
 pub fn check_call(t: &[u8], output: usize, each: usize, scratch: usize, room: usize) -> Check
     requires { ⌜ (each ≤ 256) × (room ≤ 256) ⌝ }
-    ensures { λ r. ⌜ r ≡ checkCall (now (t .entry)) output each scratch room ⌝ }
+    ensures { λ r. ⌜ r ≡ checkCall (now (t .entry)) (record { lent = output; each = each } ∷ [])
+        (record { lent = scratch; each = room }) ⌝ }
 {
     let whole = check_length(t.len());
     let Check::Passed = whole else {

@@ -1,17 +1,18 @@
--- A list of facts as the bytes of a certificate: what is read of a variable is its fact, and storing a fact changes
--- that one.
+-- The bytes of a fact: what is read of them is the fact, and they are written one after another.
 -- Assumes nothing.
 use mathlib.Core.Path.{_≡_, refl, ap, _∙_}
-use mathlib.Core.List.{List, [], _∷_, _++_, flatMap}
-use Prim.Native.Nat.{ℕ, zero, suc, _+_, _*_, _/_, _%_, _^_, _<_, _≤_}
-use native.Mathlib.Nat.{not-suc-le-zero, le-of-suc-le-suc, div-div-eq-div-mul, mod-add-div}
+use mathlib.Core.List.{List, [], _∷_}
+use Prim.Native.Nat.{ℕ, _+_, _*_, _/_, _%_, _^_, _<_, _≤_}
+use native.Mathlib.Nat.{div-div-eq-div-mul, mod-add-div}
 use native.Mathlib.Numerals.{add-one, add-two, add-three, add-four, add-five, add-six, add-seven}
 use native.Mathlib.Omega.{arith}
 use lib.ListN.{length, getD, set, List·getD-eq-default}
-use lib.Seq.{sets, getD-append-add}
+use Rattle.buffer.specs.Store.{Wrote}
+use Rattle.buffer.proofs.Layouts.{LayoutLaws, wrote-sets}
 use Rattle.fact.specs.declared.Fact.{Fact}
 use Rattle.fact.specs.declared.Fact.the-variants.{Always, Open, Marked}
-use Rattle.fact.specs.Fact.{factByte, factNumber, factBytes, factOf, factAt}
+use Rattle.fact.specs.Fact.{factByte, factNumber, factOf}
+use Rattle.fact.specs.Cells.{facts}
 
 -- ---- four bytes of a number, put together again
 
@@ -19,7 +20,7 @@ horner : (n a b c d p q : ℕ) → a + 256 * p ≡ n → b + 256 * q ≡ p → c
     → a + 256 * b + 65536 * c + 16777216 * d ≡ n
 horner n a b c d p q e₁ e₂ e₃ = omega arith
 
-pub u32-bytes : (n : ℕ) → n < 2 ^ 32
+u32-bytes : (n : ℕ) → n < 2 ^ 32
     → n % 256 + 256 * (n / 256 % 256) + 65536 * (n / 65536 % 256) + 16777216 * (n / 16777216 % 256) ≡ n
 u32-bytes n h =
     let top : n / 16777216 % 256 ≡ n / 16777216 = omega arith in
@@ -38,60 +39,34 @@ fact-of (Always n) = refl
 fact-of Open = refl
 fact-of Marked = refl
 
-first-fact : (f : Fact) (rest : List ℕ) → factNumber f < 2 ^ 32 → factAt (factBytes f ++ rest) 0 ≡ f
-first-fact f rest h = ap (factOf (factByte f)) (u32-bytes (factNumber f) h) ∙ fact-of f
+-- ---- a fact among a certificate's bytes
 
-past-cell : (f : Fact) (rest : List ℕ) (j k : ℕ) → j ≡ 8 + k → getD (factBytes f ++ rest) j 0 ≡ getD rest k 0
-past-cell f rest j k e = rw e (getD-append-add (factBytes f) rest k 0)
+pub facts-laws : LayoutLaws facts
+facts-laws =
+    record {
+      size = λ x. refl;
+      local = λ k l i j h.
+          let same : (m a b : ℕ) → m < 8 → a ≡ i + m → b ≡ j + m → getD k a 0 ≡ getD l b 0 =
+          λ m a b q e e′. rw (e, e′) (h m q) in
+          cc (
+            same 0 i j (omega arith) (omega arith) (omega arith),
+            same 4 (i + 4) (j + 4) (omega arith) (omega arith) (omega arith),
+            same 5 (i + 4 + 1) (j + 4 + 1) (omega arith) (omega arith) (omega arith),
+            same 6 (i + 4 + 2) (j + 4 + 2) (omega arith) (omega arith) (omega arith),
+            same 7 (i + 4 + 3) (j + 4 + 3) (omega arith) (omega arith) (omega arith),
+          );
+    }
 
-later-fact : (f : Fact) (rest : List ℕ) (v : ℕ) → factAt (factBytes f ++ rest) (suc v) ≡ factAt rest v
-later-fact f rest v =
-    rw (
-      past-cell f rest (suc v * 8) (v * 8) (omega arith),
-      past-cell f rest (suc v * 8 + 4) (v * 8 + 4) (omega arith),
-      past-cell f rest (suc v * 8 + 4 + 1) (v * 8 + 4 + 1) (omega arith),
-      past-cell f rest (suc v * 8 + 4 + 2) (v * 8 + 4 + 2) (omega arith),
-      past-cell f rest (suc v * 8 + 4 + 3) (v * 8 + 4 + 3) (omega arith),
-    )
-
--- ---- a list of facts, and what lies past it
-
-pub fact-read : (fs : List Fact) (rest : List ℕ) (v : ℕ) (d : Fact) → v < length fs → factNumber (getD fs v d) < 2 ^ 32
-    → factAt (flatMap factBytes fs ++ rest) v ≡ getD fs v d
-unfolding flatMap
-fact-read [] rest v d h small = absurd (not-suc-le-zero h)
-fact-read (f ∷ fs) rest zero d h small = first-fact f (flatMap factBytes fs ++ rest) small
-fact-read (f ∷ fs) rest (suc v) d h small =
-    later-fact f (flatMap factBytes fs ++ rest) v ∙ fact-read fs rest v d (le-of-suc-le-suc h) small
-
-sets-cons : (y : ℕ) (l vs : List ℕ) (i : ℕ) → sets (y ∷ l) (suc i) vs ≡ y ∷ sets l i vs
-sets-cons y l [] i = refl
-sets-cons y l (v ∷ vs) i = sets-cons y (set l i v) vs (suc i)
-
-sets-later : (f : Fact) (rest vs : List ℕ) (v : ℕ)
-    → sets (factBytes f ++ rest) (suc v * 8) vs ≡ factBytes f ++ sets rest (v * 8) vs
-sets-later f rest vs v =
-    rw eight
-    (rw (sets-cons, sets-cons, sets-cons, sets-cons, sets-cons, sets-cons, sets-cons, sets-cons))
-  where
-    eight : suc v * 8 ≡ suc (suc (suc (suc (suc (suc (suc (suc (v * 8))))))))
-    eight = omega arith
-
-pub fact-stored : (fs : List Fact) (rest : List ℕ) (v : ℕ) (f : Fact) → v < length fs
-    → sets (flatMap factBytes fs ++ rest) (v * 8) (factBytes f) ≡ flatMap factBytes (set fs v f) ++ rest
-unfolding flatMap
-fact-stored [] rest v f h = absurd (not-suc-le-zero h)
-fact-stored (g ∷ fs) rest zero f h = refl
-fact-stored (g ∷ fs) rest (suc v) f h =
-    sets-later g (flatMap factBytes fs ++ rest) (factBytes f) v
-    ∙ ap (λ (l : List ℕ). factBytes g ++ l) (fact-stored fs rest v f (le-of-suc-le-suc h))
-
--- eight bytes written one after another
-pub eight-sets : (l : List ℕ) (at a b c d e f g h : ℕ)
-    → set (set (set (set (set (set (set (set l at a) (at + 1) b) (at + 2) c) (at + 3) d) (at + 4) e) (at + 5) f)
-    (at + 6) g) (at + 7) h
-    ≡ sets l at (a ∷ b ∷ c ∷ d ∷ e ∷ f ∷ g ∷ h ∷ [])
-eight-sets l at a b c d e f g h = rw (add-one, add-two, add-three, add-four, add-five, add-six, add-seven)
+-- its eight bytes, written one after another; its number is x
+pub fact-stored : (l : List ℕ) (at : ℕ) (f : Fact) {b x : ℕ} → b ≡ factByte f → x ≡ factNumber f → x < 2 ^ 32
+    → at + 8 ≤ length l
+    → Wrote facts l
+    (set (set (set (set (set (set (set (set l at b) (at + 1) 0) (at + 2) 0) (at + 3) 0) (at + 4) (x % 256)) (at + 5)
+    (x / 256 % 256)) (at + 6) (x / 65536 % 256)) (at + 7) (x / 16777216 % 256)) at f
+fact-stored l at f byte number fit room =
+    rw (add-one, add-two, add-three, add-four, add-five, add-six, add-seven, byte, number)
+    (wrote-sets facts-laws l at f
+    (ap (factOf (factByte f)) (u32-bytes (factNumber f) (rw number at fit)) ∙ fact-of f) room)
 
 -- the fact of each byte 0
 pub fact-past : (byte n : ℕ) → 3 ≤ byte → factOf byte n ≡ Marked

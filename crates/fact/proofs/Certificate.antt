@@ -14,15 +14,15 @@ use lib.Dec.{T}
 use lib.ListN.{length}
 use Rattle.net.specs.declared.Stimulus.{Stimulus}
 use Rattle.net.specs.Tests.{member}
-use Rattle.net.specs.Net.{input, wire, register, sumRegisters, stopped, Fixed, Counts}
+use Rattle.net.specs.Net.{input, wire, register, sumRegisters, stopped, Fixpoint, Counts}
 use Rattle.net.specs.Machine as machine
 use Rattle.net.proofs.Bools.{member-1, member-2, member-3}
 use Rattle.net.proofs.Sums.{sumRegisters-scale}
-use Rattle.net.proofs.Settle.{Ranked, Local}
-use Rattle.net.proofs.Rounds.{Monotone, Heights, count-few, count-counts, stopped-fixed, fixed-closed, rounds-below}
+use Rattle.net.proofs.Settle.{input-wire, input-register, wire-register, Ranked, Local}
+use Rattle.net.proofs.Rounds.{Monotone, Heights, count-few, count-counts, stopped-fixpoint, fixpoint-closed, rounds-below}
 use Rattle.net.proofs.TwoRuns.{Sound, two-runs}
 use Rattle.circuit.specs.declared.record.InputKind.{InputKind}
-use Rattle.circuit.specs.declared.record.InputKind.the-variants.{Fixed as FixedTo, Free, Secret}
+use Rattle.circuit.specs.declared.record.InputKind.the-variants.{Fixed, Free, Secret}
 use Rattle.circuit.specs.declared.record.Record.{Record}
 use Rattle.circuit.specs.declared.record.Record.the-variants.{Input, Constant, Operator, Multiplexer, Register}
 use Rattle.circuit.specs.Record.{role, uses, inputOf}
@@ -76,15 +76,6 @@ rule-power-on (Operator w op a b) s e = ⊑-of-eq (cc)
 rule-power-on (Multiplexer w a b c) s e = ⊑-of-eq (cc)
 rule-power-on (Register w a n) s e = join-right (narrow w (s a)) (Always n)
 
-input-wire : {X : Type 0} → input ≡ wire → X
-input-wire e = let z : _≡_ {A = ℕ} 0 1 = cc in absurd (omega arith)
-
-input-register : {X : Type 0} → input ≡ register → X
-input-register e = let z : _≡_ {A = ℕ} 0 1 = cc in absurd (omega arith)
-
-register-wire : {X : Type 0} → register ≡ wire → X
-register-wire e = let z : _≡_ {A = ℕ} 0 1 = cc in absurd (omega arith)
-
 -- a wire's or a register's rule claims what its record makes of values of which its operands' facts are claimed
 rule-claims : (r : Record) (s : ℕ → Fact) (m m′ : ℕ → ℕ) (own own′ : ℕ) → (role r ≡ input → ⊥)
     → ((u : ℕ) → T (member u (uses r)) → Claims (s u) (m u) (m′ u))
@@ -99,7 +90,7 @@ rule-claims (Register w a n) s m m′ own own′ q h = claims-register w n (h a 
 
 -- at power-on
 initial-claims : (r : Record) → (role r ≡ wire → ⊥) → Claims (initialFact r) (initial r) (initial r)
-initial-claims (Input w (FixedTo n)) q = number
+initial-claims (Input w (Fixed n)) q = number
 initial-claims (Input w Free) q = alike
 initial-claims (Input w Secret) q = nothing
 initial-claims (Constant w n) q = absurd (q refl)
@@ -110,10 +101,10 @@ initial-claims (Register w a n) q = number
 -- two values that may be poked into an input at the same place of two lists
 poke-claims : (k : InputKind) (x y : ℕ) → fixedToOther (some k) x ≡ false → (x ≡ y) ⊎ T (isSecret (some k))
     → Claims (inputRule k) x y
-poke-claims (FixedTo n) x y allowed (inl e) =
+poke-claims (Fixed n) x y allowed (inl e) =
     let is : x ≡ n = eqb-true x n (not-false _ allowed) in
     subst (λ z. Claims (Always n) x z) e (rw is number)
-poke-claims (FixedTo n) x y allowed (inr t) = absurd t
+poke-claims (Fixed n) x y allowed (inr t) = absurd t
 poke-claims Free x y allowed (inl e) = subst (λ z. Claims Open x z) e alike
 poke-claims Free x y allowed (inr t) = absurd t
 poke-claims Secret x y allowed d = nothing
@@ -193,15 +184,15 @@ module _ (c : Circuit) (inside : Inside c) (noLoop : NoLoop c) where
   enough = omega (arith, twice-registers c)
 
   -- every variable of the certificate is what its rule gives
-  pub certificate-fixed : Fixed (graph c) (rule c) (certificate c)
+  certificate-fixpoint : Fixpoint (graph c) (rule c) (certificate c)
   unfolding certificate initialStore
-  certificate-fixed = stopped-fixed ranked (monotone c) (heights c) (suc (2 * registers c)) enough
+  certificate-fixpoint = stopped-fixpoint ranked (monotone c) (heights c) (suc (2 * registers c)) enough
 
   -- demand 2: the certificate is closed, and at or below every closed store at every variable
   pub certificate-least : LeastStore c (certificate c)
   unfolding certificate stopped initialStore rounds
   certificate-least = (
-    fixed-closed ranked (monotone c) (heights c) (certificate c) certificate-fixed,
+    fixpoint-closed ranked (monotone c) (heights c) (certificate c) certificate-fixpoint,
     λ s closed v below. rounds-below ranked (monotone c) s closed (rounds c) v below,
   )
 
@@ -220,11 +211,11 @@ module _ (c : Circuit) (inside : Inside c) (noLoop : NoLoop c) where
   -- ---- demand 3
 
   input-fact : (v : ℕ) → v < length c → role (recordOf c v) ≡ input → certificate c v ≡ initialFact (recordOf c v)
-  input-fact v below e = certificate-fixed v below ∙ monotone c .inputs (certificate c) v below e
+  input-fact v below e = certificate-fixpoint v below ∙ monotone c .inputs (certificate c) v below e
 
   register-fact : (v : ℕ) → v < length c → role (recordOf c v) ≡ register
       → initialFact (recordOf c v) ⊑ certificate c v
-  register-fact v below e = rw (certificate-fixed v below) (monotone c .power-on (certificate c) v below e)
+  register-fact v below e = rw (certificate-fixpoint v below) (monotone c .power-on (certificate c) v below e)
 
   -- the facts of the certificate claim what two accepted lists poke
   pokes-claimed : {xs ys : List Stimulus} → Accepted c xs → AlikeLists c xs ys
@@ -248,10 +239,10 @@ module _ (c : Circuit) (inside : Inside c) (noLoop : NoLoop c) where
       → (v : ℕ) → v < length c → Claims (certificate c v) (machine c xs v) (machine c ys v)
   unfolding machine powerOn
   two-runs-claimed xs ys a b h =
-      two-runs ranked (sound c) (certificate c) certificate-fixed
+      two-runs ranked (sound c) (certificate c) certificate-fixpoint
       (λ v. initial (recordOf c v)) (λ v. initial (recordOf c v))
       (λ v below e. claims-up (⊑-of-eq (sym (input-fact v below e)))
       (initial-claims (recordOf c v) (λ d. input-wire (sym e ∙ d))))
       (λ v below e. claims-up (register-fact v below e)
-      (initial-claims (recordOf c v) (λ d. register-wire (sym e ∙ d))))
+      (initial-claims (recordOf c v) (λ d. wire-register (sym d ∙ e))))
       (pokes-claimed a h)

@@ -2,3 +2,4 @@ pub mod Order
 pub mod Claims
 pub mod Certificate
 pub mod Cells
+pub mod Rules

@@ -1,4 +1,5 @@
 pub mod Fact
+pub mod Cells
 pub mod Rule
 pub mod Certificate
 pub mod TwoRuns

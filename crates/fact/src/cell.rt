@@ -1,9 +1,10 @@
 // Facts in a certificate's bytes, 8 a variable.
 ghost use mathlib.Core.Path.{_≡_};
-ghost use Prim.Native.Nat.{_+_, _*_, _^_, _≤_, _<_};
+ghost use Prim.Native.Nat.{_+_, _*_, _≤_};
 ghost use lib.ListN.{length};
-ghost use lib.Seq.{sets};
-ghost use Rattle.fact.specs.Fact.{factByte, factNumber, factBytes, factAt};
+ghost use Rattle.buffer.specs.Store.{Wrote};
+ghost use Rattle.fact.specs.Fact.{factByte, factNumber, factAt};
+ghost use Rattle.fact.specs.Cells.{facts};
 use crate::Fact;
 use circuit::number::u32_at;
 
@@ -46,8 +47,7 @@ pub fn load(cells: &[u8], v: usize) -> Fact
 // The 8 bytes of a fact, written as variable v's.
 pub fn store(cells: &mut [u8], v: usize, f: Fact)
     requires { ⌜ v * 8 + 8 ≤ length (now cells) ⌝ }
-    ensures { λ _. ⌜ now (cells .exit) ≡ sets (now (cells .entry)) (v * 8) (factBytes f) ⌝ }
-    ensures { λ _. ⌜ factNumber f < 2 ^ 32 ⌝ }
+    ensures { λ _. ⌜ Wrote facts (now (cells .entry)) (now (cells .exit)) (v * 8) f ⌝ }
 {
     let at = v * 8;
     let kind = byte(f);

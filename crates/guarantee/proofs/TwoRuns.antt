@@ -2,7 +2,7 @@
 -- What the certificate's bytes claim holds of the numbers that the bench calls write, over both lists entire. So three
 -- calls that keep their promises guarantee it, whatever they answer.
 -- Assumes nothing.
-use mathlib.Core.Path.{_≡_, refl, sym, _∙_, subst}
+use mathlib.Core.Path.{_≡_, sym, _∙_, subst}
 use mathlib.Core.Logic.{⊎-elim}
 use mathlib.Core.List.{List}
 use Prim.Native.Nat.{ℕ, _+_, _*_, _/_, _<_}
@@ -11,7 +11,6 @@ use lib.ListN.{length, getD}
 use Rattle.circuit.specs.Number.{u32At}
 use Rattle.circuit.specs.Circuit.{Circuit, circuit}
 use Rattle.circuit.specs.Stimuli.{stimuli}
-use Rattle.circuit.proofs.Passing.{call-fits}
 use Rattle.circuit.proofs.Tables.{Inside, circuit-length, circuit-inside}
 use Rattle.circuit.proofs.Stimuli.{stimuli-accepted}
 use Rattle.fact.specs.Fact.{factAt}
@@ -19,10 +18,11 @@ use Rattle.fact.specs.Certificate as definition
 use Rattle.fact.specs.TwoRuns.{Claims}
 use Rattle.fact.proofs.Claims.{claims-always, claims-open}
 use Rattle.fact.proofs.Certificate.{least-unique, certificate-least, two-runs-claimed}
-use Rattle.schedule.specs.Call.{Buffers, buffers}
+use Rattle.call.specs.Call.{lent, left}
+use Rattle.call.proofs.Parts.{table-checked}
 use Rattle.certificate.specs.declared.Certified.{Certified}
 use Rattle.certificate.specs.declared.Certified.the-variants as certified
-use Rattle.certificate.specs.Promise.{Certifies}
+use Rattle.certificate.specs.Promise.{certifying, Certifies}
 use Rattle.machine.specs.declared.Benched.{Benched}
 use Rattle.machine.specs.declared.Benched.the-variants as benched
 use Rattle.machine.specs.Promise.{Benches}
@@ -47,28 +47,28 @@ claim-holds cells values values′ v h =
 
 module _ (t certificate scratch certificate′ scratch′ : List ℕ)
     (values₁ scratch₁ values₁′ scratch₁′ s₁ values₂ scratch₂ values₂′ scratch₂′ s₂ : List ℕ) where
-  abbrev certifying : Buffers
-  certifying = buffers t certificate scratch certificate′ scratch′
+  abbrev Certifying : Certified → Type 0
+  Certifying = Certifies (lent t certificate scratch) (left certificate′ scratch′)
 
-  abbrev first : Buffers
-  first = buffers t values₁ scratch₁ values₁′ scratch₁′
+  abbrev First : Benched → Type 0
+  First = Benches s₁ (lent t values₁ scratch₁) (left values₁′ scratch₁′)
 
-  abbrev second : Buffers
-  second = buffers t values₂ scratch₂ values₂′ scratch₂′
+  abbrev Second : Benched → Type 0
+  Second = Benches s₂ (lent t values₂ scratch₂) (left values₂′ scratch₂′)
 
-  pub two-runs-guaranteed : {k : ℕ} → Certifies certifying (certified.Accepted k) → Benches first s₁ benched.Accepted
-      → Benches second s₂ benched.Accepted → AlikeStimuli t s₁ s₂ → ClaimsHold t certificate′ values₁′ values₂′
+  pub two-runs-guaranteed : {k : ℕ} → Certifying (certified.Accepted k) → First benched.Accepted
+      → Second benched.Accepted → AlikeStimuli t s₁ s₂ → ClaimsHold t certificate′ values₁′ values₂′
   two-runs-guaranteed p q q′ a v below =
       claim-holds certificate′ values₁′ values₂′ v
       (rw (
         least-unique c (factAt certificate′) (definition.certificate c)
-            (p .least) (certificate-least c inside (p .no-loop)) v variable,
-        value-written first s₁ q v below,
-        value-written second s₂ q′ v below,
+            (p .accepts .least) (certificate-least c inside (p .past .no-loop)) v variable,
+        value-written s₁ _ _ q v below,
+        value-written s₂ _ _ q′ v below,
       )
-      (two-runs-claimed c inside (p .no-loop) (stimuli s₁) (stimuli s₂)
-      (stimuli-accepted c s₁ (q .list-passed)) (stimuli-accepted c s₂ (q′ .list-passed))
-      (lists-alike t s₁ s₂ n (q .list-passed) a) v variable))
+      (two-runs-claimed c inside (p .past .no-loop) (stimuli s₁) (stimuli s₂)
+      (stimuli-accepted c s₁ (q .later)) (stimuli-accepted c s₂ (q′ .later))
+      (lists-alike t s₁ s₂ n (q .later) a) v variable))
     where
       n : ℕ
       n = length t / 16
@@ -77,21 +77,19 @@ module _ (t certificate scratch certificate′ scratch′ : List ℕ)
       c = circuit t n
 
       inside : Inside c
-      inside = circuit-inside t n (call-fits t (length certificate) 8 (length scratch) 4 n refl (p .passed) .valid)
+      inside = circuit-inside t n (table-checked certifying (lent t certificate scratch) (p .past .passed) .valid)
 
       variable : v < length c
       variable = omega (arith, circuit-length t n)
 
-  pub calls-guaranteed : (r : Answers) → Certifies certifying (r .certified) → Benches first s₁ (r .first)
-      → Benches second s₂ (r .second) → Guarantees certifying s₁ first s₂ second r
+  pub calls-guaranteed : (r : Answers) → Certifying (r .certified) → First (r .first) → Second (r .second)
+      → Guarantees (lent t certificate scratch) (left certificate′ scratch′) s₁ (lent t values₁ scratch₁)
+      (left values₁′ scratch₁′) s₂ (lent t values₂ scratch₂) (left values₂′ scratch₂′) r
   calls-guaranteed r p q q′ =
       record {
         certifies = p;
         benches-first = q;
         benches-second = q′;
         claims = λ ((k, e), e₁, e₂) a. two-runs-guaranteed
-            (subst (λ (y : Certified). Certifies certifying y) e p)
-            (subst (λ (y : Benched). Benches first s₁ y) e₁ q)
-            (subst (λ (y : Benched). Benches second s₂ y) e₂ q′)
-            a;
+            (subst Certifying e p) (subst First e₁ q) (subst Second e₂ q′) a;
       }

@@ -27,13 +27,14 @@ use Rattle.fact.specs.Fact.{factAt}
 use Rattle.fact.specs.Rule.{rule}
 use Rattle.fact.specs.Certificate.{initialStore, registers, rounds, certificate}
 use Rattle.fact.proofs.Certificate.{least-agree, certificate-least, rounds-counted, rounds-few}
-use Rattle.schedule.specs.Call.{circuitOf}
+use Rattle.call.specs.Call.{circuitOf}
 use Rattle.certificate.specs.declared.Certified.the-variants as certified
 use Rattle.certificate.specs.Promise.{Certifies}
 use Rattle.machine.specs.declared.Benched.the-variants as benched
 use Rattle.machine.specs.Promise.{Benches}
 use Rattle.guarantee.specs.TwoRuns.{BothTick, BothPoke, AlikeStimuli, ClaimsHold}
-use Rattle.guarantee.specs.Witness.{table, stimuli₁, stimuli₂, certifying, bench₁, bench₂}
+use Rattle.guarantee.specs.Witness as witness
+use Rattle.guarantee.specs.Witness.{table, stimuli₁, stimuli₂, values₁, values₂, zeros, written}
 use Rattle.guarantee.proofs.TwoRuns.{two-runs-guaranteed}
 
 -- ---- a circuit has no loop where a rank falls along every wire's uses
@@ -64,7 +65,7 @@ no-loop-by-rank c rank inside small h =
 -- ---- case A's table
 
 abbrev c : Circuit
-c = circuitOf certifying
+c = circuitOf (zeros 8)
 
 inside : Inside c
 unfolding checkRecords flatten
@@ -75,12 +76,12 @@ unfolding circuit flatten allBelow every
 no-loop = no-loop-by-rank c (λ v. getD (0 ∷ 0 ∷ 0 ∷ 0 ∷ 2 ∷ 1 ∷ 1 ∷ []) v 0) inside tt tt
 
 -- the certificate's bytes hold the facts of the certificate
-facts-written : (v : ℕ) → v < length c → factAt (certifying .output-exit) v ≡ certificate c v
+facts-written : (v : ℕ) → v < length c → factAt witness.certificate v ≡ certificate c v
 unfolding flatten circuit listBelow certificate
 facts-written v below =
-    let same : listBelow (factAt (certifying .output-exit)) 7 ≡ listBelow (certificate c) 7 = refl in
+    let same : listBelow (factAt witness.certificate) 7 ≡ listBelow (certificate c) 7 = refl in
     let variable : v < 7 = below in
-    sym (getD-listBelow (factAt (certifying .output-exit)) 7 v Open variable)
+    sym (getD-listBelow (factAt witness.certificate) 7 v Open variable)
     ∙ ap (λ (fs : List Fact). getD fs v Open) same
     ∙ getD-listBelow (certificate c) 7 v Open variable
 
@@ -88,30 +89,40 @@ one-round : rounds c ≡ 1
 unfolding flatten circuit rounds
 one-round = refl
 
-certified-once : Certifies certifying (certified.Accepted 1)
+certified-once : Certifies (zeros 8) (written witness.certificate) (certified.Accepted 1)
 unfolding flatten flatMap circuit checkRecords listBelow rule initialStore after
 certified-once =
     record {
-      passed = refl;
-      no-loop = no-loop;
-      counts =
-          subst (λ (k : ℕ). Counts (graph c) (rule c) (initialStore c) k) one-round (rounds-counted c inside no-loop);
-      few = subst (λ (k : ℕ). k ≤ 2 * registers c) one-round (rounds-few c inside no-loop);
-      certificate = refl;
-      least = least-agree c inside (certificate c) (factAt (certifying .output-exit)) facts-written
-          (certificate-least c inside no-loop);
-      scratch = refl;
+      past = record { passed = refl; no-loop = no-loop; scratch = refl };
+      later = refl;
+      accepts = record {
+        counts =
+            subst (λ (k : ℕ). Counts (graph c) (rule c) (initialStore c) k) one-round
+            (rounds-counted c inside no-loop);
+        few = subst (λ (k : ℕ). k ≤ 2 * registers c) one-round (rounds-few c inside no-loop);
+        certificate = refl;
+        least = least-agree c inside (certificate c) (factAt witness.certificate) facts-written
+            (certificate-least c inside no-loop);
+      };
     }
 
-benched₁ : Benches bench₁ stimuli₁ benched.Accepted
+benched₁ : Benches stimuli₁ (zeros 1) (written values₁) benched.Accepted
 unfolding flatten circuit checkRecords checkStimuli stimuli listBelow machine
 benched₁ =
-    record { passed = refl; no-loop = no-loop; list-passed = refl; values = refl; scratch = refl }
+    record {
+      past = record { passed = refl; no-loop = no-loop; scratch = refl };
+      later = refl;
+      accepts = record { no-number = refl; values = refl };
+    }
 
-benched₂ : Benches bench₂ stimuli₂ benched.Accepted
+benched₂ : Benches stimuli₂ (zeros 1) (written values₂) benched.Accepted
 unfolding flatten circuit checkRecords checkStimuli stimuli listBelow machine
 benched₂ =
-    record { passed = refl; no-loop = no-loop; list-passed = refl; values = refl; scratch = refl }
+    record {
+      past = record { passed = refl; no-loop = no-loop; scratch = refl };
+      later = refl;
+      accepts = record { no-number = refl; values = refl };
+    }
 
 alike-places : (i : ℕ) → i < 5 → BothTick stimuli₁ stimuli₂ (i * 8) ⊎ BothPoke table stimuli₁ stimuli₂ (i * 8)
 unfolding flatten
@@ -127,14 +138,14 @@ stimuli-alike : AlikeStimuli table stimuli₁ stimuli₂
 stimuli-alike = record { equally-long = refl; alike = alike-places }
 
 -- the premises of demand 3 hold, and the secret input ends with two numbers
-pub premises-met : Certifies certifying (certified.Accepted 1)
-    × Benches bench₁ stimuli₁ benched.Accepted
-    × Benches bench₂ stimuli₂ benched.Accepted
+pub premises-met : Certifies (zeros 8) (written witness.certificate) (certified.Accepted 1)
+    × Benches stimuli₁ (zeros 1) (written values₁) benched.Accepted
+    × Benches stimuli₂ (zeros 1) (written values₂) benched.Accepted
     × AlikeStimuli table stimuli₁ stimuli₂
-    × (getD (bench₁ .output-exit) 0 0 ≡ getD (bench₂ .output-exit) 0 0 → ⊥)
+    × (getD values₁ 0 0 ≡ getD values₂ 0 0 → ⊥)
 premises-met = (certified-once, benched₁, benched₂, stimuli-alike, λ e. omega arith)
 
 -- so demand 3 speaks of these calls
-pub claims-met : ClaimsHold table (certifying .output-exit) (bench₁ .output-exit) (bench₂ .output-exit)
+pub claims-met : ClaimsHold table witness.certificate values₁ values₂
 claims-met =
     two-runs-guaranteed _ _ _ _ _ _ _ _ _ _ _ _ _ _ _ certified-once benched₁ benched₂ stimuli-alike

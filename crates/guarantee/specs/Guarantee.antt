@@ -4,7 +4,7 @@
 use mathlib.Core.Path.{_≡_}
 use mathlib.Core.List.{List}
 use Prim.Native.Nat.{ℕ}
-use Rattle.schedule.specs.Call.{Buffers}
+use Rattle.call.specs.Call.{Lent, Left, outputOf}
 use Rattle.certificate.specs.declared.Certified.the-variants as certified
 use Rattle.certificate.specs.Promise.{Certifies}
 use Rattle.machine.specs.declared.Benched.the-variants as benched
@@ -19,11 +19,11 @@ AllAccepted r =
     × (r .first ≡ benched.Accepted)
     × (r .second ≡ benched.Accepted)
 
--- over the buffers of the certifying call, and the list and the buffers of each bench call
-pub record Guarantees (certifying : Buffers) (s : List ℕ) (first : Buffers) (s′ : List ℕ) (second : Buffers)
+-- over what is lent to the certifying call and what it leaves, and the list and the same of each bench call
+pub record Guarantees (l : Lent) (e : Left) (s : List ℕ) (l₁ : Lent) (e₁ : Left) (s′ : List ℕ) (l₂ : Lent) (e₂ : Left)
     (r : Answers) : Type 0 where
-  pub certifies : Certifies certifying (r .certified)
-  pub benches-first : Benches first s (r .first)
-  pub benches-second : Benches second s′ (r .second)
-  pub claims : AllAccepted r → AlikeStimuli (certifying .table) s s′
-      → ClaimsHold (certifying .table) (certifying .output-exit) (first .output-exit) (second .output-exit)
+  pub certifies : Certifies l e (r .certified)
+  pub benches-first : Benches s l₁ e₁ (r .first)
+  pub benches-second : Benches s′ l₂ e₂ (r .second)
+  pub claims : AllAccepted r → AlikeStimuli (l .table) s s′
+      → ClaimsHold (l .table) (outputOf (e .outputs)) (outputOf (e₁ .outputs)) (outputOf (e₂ .outputs))

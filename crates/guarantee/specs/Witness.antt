@@ -5,7 +5,7 @@ use mathlib.Core.List.{List, [], _∷_, _++_, flatten}
 use Prim.Native.Nat.{ℕ, _*_}
 use lib.ListN.{replicate}
 use Rattle.fact.specs.Cases.{caseA}
-use Rattle.schedule.specs.Call.{Buffers, buffers}
+use Rattle.call.specs.Call.{Lent, Left, lent, left}
 
 abbrev pub table : List ℕ
 table = flatten (caseA .records)
@@ -32,18 +32,20 @@ abbrev cell : ℕ → ℕ → List ℕ
 cell byte n = byte ∷ 0 ∷ 0 ∷ 0 ∷ n ∷ 0 ∷ 0 ∷ 0 ∷ []
 
 -- marked, open, always 5, open, open, open, marked
-abbrev certificate : List ℕ
+abbrev pub certificate : List ℕ
 certificate = cell 3 0 ++ cell 2 0 ++ cell 1 5 ++ cell 2 0 ++ cell 2 0 ++ cell 2 0 ++ cell 3 0
 
+-- what the two runs end in
+abbrev pub values₁ : List ℕ
+values₁ = 5 ∷ 1 ∷ 5 ∷ 10 ∷ 15 ∷ 15 ∷ 1 ∷ []
+
+abbrev pub values₂ : List ℕ
+values₂ = 200 ∷ 1 ∷ 5 ∷ 10 ∷ 15 ∷ 15 ∷ 0 ∷ []
+
 -- buffers of zeros, as long as is asked
-abbrev lent : ℕ → List ℕ → Buffers
-lent each written = buffers table (replicate (7 * each) 0) (replicate 28 0) written (replicate 28 0)
+abbrev pub zeros : ℕ → Lent
+zeros each = lent table (replicate (7 * each) 0) (replicate 28 0)
 
-abbrev pub certifying : Buffers
-certifying = lent 8 certificate
-
-abbrev pub bench₁ : Buffers
-bench₁ = lent 1 (5 ∷ 1 ∷ 5 ∷ 10 ∷ 15 ∷ 15 ∷ 1 ∷ [])
-
-abbrev pub bench₂ : Buffers
-bench₂ = lent 1 (200 ∷ 1 ∷ 5 ∷ 10 ∷ 15 ∷ 15 ∷ 0 ∷ [])
+-- an output, and the scratch cleared
+abbrev pub written : List ℕ → Left
+written output = left output (replicate 28 0)

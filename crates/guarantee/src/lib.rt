@@ -1,6 +1,6 @@
 // Demand 3 over the two calls: what a certificate claims of two runs of its table. One function makes the three calls,
 // and its contract is the claim.
-ghost use Rattle.schedule.specs.Call.{buffers};
+ghost use Rattle.call.specs.Call.{lent, left};
 ghost use Rattle.guarantee.specs.Guarantee.{Guarantees};
 use certificate::Certified;
 use certificate::certify;
@@ -28,15 +28,14 @@ pub fn two_runs(
     scratch2: &mut [u16],
 ) -> Answers
     ensures { λ r. ⌜ Guarantees
-        (buffers (now (table .entry)) (now (certificate .entry)) (now (scratch .entry))
-        (now (certificate .exit)) (now (scratch .exit)))
+        (lent (now (table .entry)) (now (certificate .entry)) (now (scratch .entry)))
+        (left (now (certificate .exit)) (now (scratch .exit)))
         (now (stimuli1 .entry))
-        (buffers (now (table .entry)) (now (values1 .entry)) (now (scratch1 .entry))
-        (now (values1 .exit)) (now (scratch1 .exit)))
+        (lent (now (table .entry)) (now (values1 .entry)) (now (scratch1 .entry)))
+        (left (now (values1 .exit)) (now (scratch1 .exit)))
         (now (stimuli2 .entry))
-        (buffers (now (table .entry)) (now (values2 .entry)) (now (scratch2 .entry))
-        (now (values2 .exit)) (now (scratch2 .exit)))
-        r ⌝ }
+        (lent (now (table .entry)) (now (values2 .entry)) (now (scratch2 .entry)))
+        (left (now (values2 .exit)) (now (scratch2 .exit))) r ⌝ }
 {
     let certified = certify(table, certificate, scratch);
     let first = bench(table, stimuli1, values1, scratch1);

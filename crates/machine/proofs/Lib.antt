@@ -1,12 +1,8 @@
 pub mod Checking
-pub mod Evaluation
-pub mod Holding
-pub mod Settling
 pub mod Staging
 pub mod Acting
 pub mod Running
 pub mod Promise
-pub mod Fixed
 pub mod Satisfied
 pub mod ReaderOwned
 pub mod Reading

@@ -1,113 +1,81 @@
--- Stimuli one after another: the invariant of the run, that it ends in the state after the whole list, and that from
--- power-on this is the machine's state.
+-- Stimuli one after another: the invariant of the run, and that it ends in the state after the whole list.
 -- Assumes nothing.
-use mathlib.Core.Path.{_≡_, refl, sym, ap, _∙_}
-use mathlib.Core.List.{List, [], _∷_}
+use mathlib.Core.Path.{_≡_, sym, ap, _∙_}
+use mathlib.Core.List.{List}
 use Prim.Native.Nat.{ℕ, _+_, _*_, _/_, _<_, _≤_}
 use native.Mathlib.Numerals.{add-one}
 use native.Mathlib.Omega.{arith}
-use lib.ListN.{length, drop}
-use lib.Seq.{drop-cons, drop-length}
+use lib.ListN.{length, take}
+use lib.Seq.{take-length}
 use Rattle.net.specs.declared.Stimulus.{Stimulus}
 use Rattle.net.specs.declared.Stimulus.the-variants.{Tick}
 use Rattle.net.specs.Machine.{act, run}
 use Rattle.net.proofs.Lists.{length-listBelow, getD-listBelow}
-use Rattle.circuit.specs.declared.refusal.Check.the-variants.{Passed}
+use Rattle.net.proofs.Machine.{run-take}
+use Rattle.buffer.specs.Kept.{KeptOutside}
+use Rattle.buffer.specs.Store.{numbers, Moves}
+use Rattle.buffer.proofs.Filled.{outside-none, outside-trans}
+use Rattle.buffer.proofs.Store.{moves-none, moves-then, moves-as}
 use Rattle.circuit.specs.Circuit.{circuit, graph}
-use Rattle.circuit.specs.Checks.{checkRecords}
-use Rattle.circuit.specs.Machine as machine
+use Rattle.circuit.specs.Machine.{values}
 use Rattle.circuit.specs.Stimuli.{stimulusAt, stimuli}
-use Rattle.schedule.specs.Schedule.{Ordered}
-use Rattle.schedule.specs.Scratch.{Kept, KeptOutside}
-use Rattle.schedule.proofs.Filled.{kept-none, kept-trans, outside-none, outside-trans}
-use Rattle.machine.specs.State.{state, Holds}
-use Rattle.machine.specs.Ready.{Ready}
-use Rattle.machine.proofs.Holding.{holds-then}
-use Rattle.machine.proofs.Acting.{ready-kept, run-held}
+use Rattle.engine.specs.Ready.{Ready}
+use Rattle.engine.proofs.Standing.{ready-long, ready-kept}
+use Rattle.machine.specs.Promise.{room}
 
--- ---- the list from stimulus i on
+stimuli-length : (s : List ℕ) → length (stimuli s) ≡ length s / 8
+unfolding stimuli
+stimuli-length s = length-listBelow _ (length s / 8)
 
-module _ (s : List ℕ) where
-  stimuli-length : length (stimuli s) ≡ length s / 8
-  unfolding stimuli
-  stimuli-length = length-listBelow _ (length s / 8)
+-- the state after one stimulus more
+run-next : (t : List ℕ) (n : ℕ) (s : List ℕ) (i : ℕ) (x : ℕ → ℕ) → i < length s / 8
+    → act (graph (circuit t n)) (values (circuit t n)) (stimulusAt s (i * 8))
+    (run (graph (circuit t n)) (values (circuit t n)) (take i (stimuli s)) x)
+    ≡ run (graph (circuit t n)) (values (circuit t n)) (take (i + 1) (stimuli s)) x
+unfolding stimuli
+run-next t n s i x h =
+    rw (add-one i)
+    (ap (λ (y : Stimulus). act (graph (circuit t n)) (values (circuit t n)) y
+    (run (graph (circuit t n)) (values (circuit t n)) (take i (stimuli s)) x))
+    (sym (getD-listBelow (λ k. stimulusAt s (k * 8)) (length s / 8) i Tick h))
+    ∙ sym (run-take (graph (circuit t n)) (values (circuit t n)) (stimuli s) i Tick x
+    (omega (arith, stimuli-length s))))
 
-  stimuli-next : (i : ℕ) → i < length s / 8 → drop i (stimuli s) ≡ stimulusAt s (i * 8) ∷ drop (i + 1) (stimuli s)
-  unfolding stimuli
-  stimuli-next i h =
-      drop-cons (stimuli s) i Tick (omega (arith, stimuli-length))
-      ∙ rw (getD-listBelow (λ k. stimulusAt s (k * 8)) (length s / 8) i Tick h, add-one i)
-
-  stimuli-none : drop (length s / 8) (stimuli s) ≡ []
-  stimuli-none = ap (λ (k : ℕ). drop k (stimuli s)) (sym stimuli-length) ∙ drop-length (stimuli s)
-
--- ---- the run
-
--- the first i stimuli have acted: the others lead from here to where all lead from the start
-pub record RanTo (t : List ℕ) (n : ℕ) (s : List ℕ) (wires registers : ℕ) (scratch₀ values₀ scratch values : List ℕ)
+-- the first i stimuli have acted
+pub record RanTo (t : List ℕ) (n : ℕ) (s : List ℕ) (wires registers : ℕ) (scratch₀ values₀ scratch cells : List ℕ)
     (i : ℕ) : Type 0 where
-  pub ready : Ready t n scratch wires registers
-  pub scratch-kept : KeptOutside (n + n) (n * 4) scratch₀ scratch
-  pub kept : Kept n values₀ values
-  pub rest : (v : ℕ) → v < n
-      → run (graph (circuit t n)) (machine.values (circuit t n)) (drop i (stimuli s)) (state values) v
-      ≡ run (graph (circuit t n)) (machine.values (circuit t n)) (stimuli s) (state values₀) v
+  pub ready : Ready numbers room t n scratch wires registers cells
+  pub kept : KeptOutside (n + n) (n * room) scratch₀ scratch
+  pub moves : Moves numbers n (run (graph (circuit t n)) (values (circuit t n)) (take i (stimuli s))) values₀ cells
 
-pub none-ran : {t : List ℕ} {n : ℕ} {scratch : List ℕ} {wires registers : ℕ} (s values : List ℕ)
-    → Ready t n scratch wires registers → RanTo t n s wires registers scratch values scratch values 0
-none-ran {t} {n} {scratch} s values r =
-    record {
-      ready = r;
-      scratch-kept = outside-none (n + n) (n * 4) scratch;
-      kept = kept-none n values;
-      rest = λ v l. refl;
-    }
+pub none-ran : {t : List ℕ} {n : ℕ} {scratch : List ℕ} {wires registers : ℕ} {cells : List ℕ} (s : List ℕ)
+    → Ready numbers room t n scratch wires registers cells
+    → RanTo t n s wires registers scratch cells scratch cells 0
+unfolding run
+none-ran {n = n} {scratch} s r =
+    record { ready = r; kept = outside-none (n + n) (n * room) scratch; moves = moves-none }
 
-module _ {t : List ℕ} {n : ℕ} {s : List ℕ} {wires registers : ℕ} {scratch₀ values₀ scratch values : List ℕ} {i : ℕ}
-    (p : RanTo t n s wires registers scratch₀ values₀ scratch values i) where
-  pub one-ran : {scratch′ values′ : List ℕ} → i < length s / 8 → KeptOutside (n + n) (n * 4) scratch scratch′
-      → Holds n (act (graph (circuit t n)) (machine.values (circuit t n)) (stimulusAt s (i * 8)) (state values))
-      values values′
-      → RanTo t n s wires registers scratch₀ values₀ scratch′ values′ (i + 1)
-  unfolding run
-  one-ran {scratch′} {values′} h kept acted =
+module _ {t : List ℕ} {n : ℕ} {s : List ℕ} {wires registers : ℕ} {scratch₀ values₀ scratch cells : List ℕ} {i : ℕ}
+    (p : RanTo t n s wires registers scratch₀ values₀ scratch cells i) where
+  pub one-ran : {scratch′ cells′ : List ℕ} → i < length s / 8 → KeptOutside (n + n) (n * room) scratch scratch′
+      → Moves numbers n (act (graph (circuit t n)) (values (circuit t n)) (stimulusAt s (i * 8))) cells cells′
+      → RanTo t n s wires registers scratch₀ values₀ scratch′ cells′ (i + 1)
+  one-ran h kept acted =
       record {
-        ready = ready-kept (p .ready) kept;
-        scratch-kept = outside-trans (p .scratch-kept) kept;
-        kept = kept-trans (p .kept) (acted .kept);
-        rest = λ v l.
-            run-held t n (p .ready .valid) (p .ready .order) (drop (i + 1) (stimuli s)) values′ (acted .holds) v l
-            ∙ ap (runs v) (sym (stimuli-next s i h))
-            ∙ p .rest v l;
+        ready = ready-kept (ready-long (p .ready) (acted .kept .long)) (omega arith) kept;
+        kept = outside-trans (p .kept) kept;
+        moves =
+            moves-as (moves-then (p .moves) acted)
+            (λ x v l. ap (λ (y : ℕ → ℕ). y v) (run-next t n s i x h));
       }
-    where
-      runs : ℕ → List Stimulus → ℕ
-      runs v xs = run (graph (circuit t n)) (machine.values (circuit t n)) xs (state values) v
 
   pub all-ran : length s / 8 ≤ i → i ≤ length s / 8
-      → Holds n (run (graph (circuit t n)) (machine.values (circuit t n)) (stimuli s) (state values₀)) values₀ values
-  unfolding run
+      → Moves numbers n (run (graph (circuit t n)) (values (circuit t n)) (stimuli s)) values₀ cells
   all-ran h k =
-      record {
-        kept = p .kept;
-        holds = λ v l.
-            ap (λ (xs : List Stimulus). run (graph (circuit t n)) (machine.values (circuit t n)) xs (state values) v)
-            (sym none)
-            ∙ p .rest v l;
-      }
+      moves-as (p .moves)
+      (λ x v l. ap (λ (xs : List Stimulus). run (graph (circuit t n)) (values (circuit t n)) xs x v) whole)
     where
-      none : drop i (stimuli s) ≡ []
-      none =
-          let all : i ≡ length s / 8 = omega arith in
-          ap (λ (k : ℕ). drop k (stimuli s)) all ∙ stimuli-none s
-
--- ---- from power-on
-
--- the list's run from what power-on left is the machine's
-pub machine-holds : (t : List ℕ) (n : ℕ) → checkRecords t n ≡ Passed → {order : List ℕ} → Ordered (circuit t n) order
-    → {entry first exit : List ℕ} (xs : List Stimulus) → Holds n (machine.powerOn (circuit t n)) entry first
-    → Holds n (run (graph (circuit t n)) (machine.values (circuit t n)) xs (state first)) first exit
-    → Holds n (machine.machine (circuit t n) xs) entry exit
-unfolding machine.machine
-machine-holds t n valid ordered {first = first} xs on ran =
-    holds-then (on .kept) ran (run-held t n valid ordered xs first (on .holds))
+      whole : take i (stimuli s) ≡ stimuli s
+      whole =
+          let all : i ≡ length (stimuli s) = omega (arith, stimuli-length s) in
+          ap (λ (j : ℕ). take j (stimuli s)) all ∙ take-length (stimuli s)

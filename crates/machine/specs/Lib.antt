@@ -2,5 +2,4 @@ pub mod Promise
 pub mod State
 pub mod Staging
 pub mod Reading
-pub mod Ready
 pub mod Answer

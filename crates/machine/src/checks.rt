@@ -10,7 +10,7 @@ ghost use Rattle.circuit.specs.declared.refusal.Check.the-variants as check;
 ghost use Rattle.circuit.specs.declared.stimulus.ReadStimulus.the-variants.{Read};
 ghost use Rattle.circuit.specs.Refusal.{refuse};
 ghost use Rattle.circuit.specs.Circuit.{circuit};
-ghost use Rattle.circuit.specs.Checks.{checkRecords};
+ghost use Rattle.circuit.specs.Checks.{Checked};
 ghost use Rattle.circuit.specs.Stimuli.{fixedToOther, checkStimulus, checkStimuliFrom, checkStimuli};
 use crate::reader::read_stimulus;
 use circuit::number::wide;
@@ -46,8 +46,7 @@ fn check_value(w: u8, kind: InputKind, x: u32, i: usize) -> Check
 
 // Grounds 15 to 17 of stimulus i, which pokes variable v with x.
 fn check_poke(t: &[u8], n: usize, v: usize, x: u32, i: usize) -> Check
-    requires { ⌜ n * 16 ≤ length (now t) ⌝ }
-    requires { ⌜ checkRecords (now t) n ≡ check.Passed ⌝ }
+    requires { ⌜ Checked (now t) n ⌝ }
     ensures { λ r. ⌜ r ≡ checkStimulus (circuit (now (t .entry)) n) (Read (Poke v x)) i ⌝ }
 {
     if n <= v {
@@ -65,8 +64,7 @@ fn check_poke(t: &[u8], n: usize, v: usize, x: u32, i: usize) -> Check
 
 // Grounds 14 to 17 of stimulus i.
 fn check_stimulus(t: &[u8], n: usize, read: ReadStimulus, i: usize) -> Check
-    requires { ⌜ n * 16 ≤ length (now t) ⌝ }
-    requires { ⌜ checkRecords (now t) n ≡ check.Passed ⌝ }
+    requires { ⌜ Checked (now t) n ⌝ }
     ensures { λ r. ⌜ r ≡ checkStimulus (circuit (now (t .entry)) n) read i ⌝ }
 {
     match read {
@@ -80,8 +78,8 @@ fn check_stimulus(t: &[u8], n: usize, read: ReadStimulus, i: usize) -> Check
 
 // Grounds 14 to 17 of the first `count` stimuli.
 fn check_each(t: &[u8], n: usize, s: &[u8], count: usize) -> Check
-    requires { ⌜ (n * 16 ≤ length (now t)) × (count * 8 ≤ length (now s)) ⌝ }
-    requires { ⌜ checkRecords (now t) n ≡ check.Passed ⌝ }
+    requires { ⌜ Checked (now t) n ⌝ }
+    requires { ⌜ count * 8 ≤ length (now s) ⌝ }
     ensures { λ r. ⌜ r ≡ checkStimuliFrom (circuit (now (t .entry)) n) (now (s .entry)) count 0 ⌝ }
 {
     let mut i: usize = 0;
@@ -98,8 +96,7 @@ fn check_each(t: &[u8], n: usize, s: &[u8], count: usize) -> Check
 
 // Grounds 12 to 17 of a list of stimuli.
 pub fn check_stimuli(t: &[u8], n: usize, s: &[u8]) -> Check
-    requires { ⌜ n * 16 ≤ length (now t) ⌝ }
-    requires { ⌜ checkRecords (now t) n ≡ check.Passed ⌝ }
+    requires { ⌜ Checked (now t) n ⌝ }
     ensures { λ r. ⌜ r ≡ checkStimuli (circuit (now (t .entry)) n) (now (s .entry)) ⌝ }
 {
     if s.len() % 8 != 0 {

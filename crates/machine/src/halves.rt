@@ -2,8 +2,8 @@
 ghost use mathlib.Core.Path.{_≡_};
 ghost use Prim.Native.Nat.{_+_, _≤_, _<_};
 ghost use lib.ListN.{length};
-ghost use Rattle.schedule.specs.Scratch.{KeptOutside};
-ghost use Rattle.machine.specs.Staging.{numberAt};
+ghost use Rattle.buffer.specs.Store.{Wrote};
+ghost use Rattle.machine.specs.Staging.{numberAt, halves};
 
 // A 16-bit number as a wider one.
 fn wide32(x: u16) -> u32
@@ -23,8 +23,7 @@ pub fn load(scratch: &[u16], at: usize) -> u32
 // The two halves of a number, written from a place on.
 pub fn store(scratch: &mut [u16], at: usize, x: u32)
     requires { ⌜ at + 2 ≤ length (now scratch) ⌝ }
-    ensures { λ _. ⌜ KeptOutside at (at + 2) (now (scratch .entry)) (now (scratch .exit)) ⌝ }
-    ensures { λ _. ⌜ numberAt (now (scratch .exit)) at ≡ x ⌝ }
+    ensures { λ _. ⌜ Wrote halves (now (scratch .entry)) (now (scratch .exit)) at x ⌝ }
 {
     scratch[at] = (x % 65536) as u16;
     scratch[at + 1] = (x / 65536) as u16;

@@ -2,16 +2,16 @@
 // number a variable, in the lent output; the order of the wires, and what a tick stages, stand in the lent scratch.
 ghost use mathlib.Core.Path.{_≡_};
 ghost use mathlib.Core.List.{_++_};
-ghost use Prim.Native.Nat.{_+_, _*_, _≤_};
-ghost use lib.ListN.{length, drop, replicate};
+ghost use Prim.Native.Nat.{_+_, _*_};
+ghost use lib.ListN.{drop, replicate};
+ghost use Rattle.buffer.specs.Kept.{KeptOutside};
+ghost use Rattle.buffer.specs.Store.{numbers};
 ghost use Rattle.circuit.specs.declared.refusal.Check.the-variants.{Passed};
 ghost use Rattle.circuit.specs.Circuit.{circuit};
-ghost use Rattle.circuit.specs.Checks.{checkCall};
-ghost use Rattle.schedule.specs.Scratch.{KeptOutside};
-ghost use Rattle.schedule.specs.Call.{buffers};
-ghost use Rattle.machine.specs.Ready.{Ready};
+ghost use Rattle.engine.specs.Ready.{Ready};
+ghost use Rattle.call.specs.Call.{lent, left, checked};
 ghost use Rattle.machine.specs.Answer.{ListAnswered};
-ghost use Rattle.machine.specs.Promise.{Benches};
+ghost use Rattle.machine.specs.Promise.{room, benching, Benches};
 use crate::checks::check_stimuli;
 use crate::pass::power_on;
 use crate::run::run;
@@ -30,6 +30,11 @@ mod run;
 mod stimulus;
 mod tick;
 
+// What is asked a record of the values and of the scratch.
+const EACH: usize = 1;
+
+const ROOM: usize = 4;
+
 // The list has run; or the ground on which the table or the list is turned down, with its place.
 pub enum Benched {
     Accepted,
@@ -46,9 +51,8 @@ fn bench_list(
     registers: usize,
     values: &mut [u32],
 ) -> Benched
-    requires { ⌜ Ready (now t) n (now scratch) wires registers ⌝ }
-    requires { ⌜ n ≤ length (now values) ⌝ }
-    ensures { λ _. ⌜ KeptOutside (n + n) (n * 4) (now (scratch .entry)) (now (scratch .exit)) ⌝ }
+    requires { ⌜ Ready numbers room (now t) n (now scratch) wires registers (now values) ⌝ }
+    ensures { λ _. ⌜ KeptOutside (n + n) (n * room) (now (scratch .entry)) (now (scratch .exit)) ⌝ }
     ensures { λ r. ⌜ ListAnswered (circuit (now (t .entry)) n) n (now (s .entry))
         (now (values .entry)) (now (values .exit)) r ⌝ }
 {
@@ -73,27 +77,25 @@ fn bench_ordered(
     registers: usize,
     values: &mut [u32],
 ) -> Benched
-    requires { ⌜ Ready (now t) n (now scratch) wires registers ⌝ }
-    requires { ⌜ n ≤ length (now values) ⌝ }
-    ensures { λ _. ⌜ now (scratch .exit) ≡ replicate (n * 4) 0 ++ drop (n * 4) (now (scratch .entry)) ⌝ }
+    requires { ⌜ Ready numbers room (now t) n (now scratch) wires registers (now values) ⌝ }
+    ensures { λ _. ⌜ now (scratch .exit) ≡ replicate (n * room) 0 ++ drop (n * room) (now (scratch .entry)) ⌝ }
     ensures { λ r. ⌜ ListAnswered (circuit (now (t .entry)) n) n (now (s .entry))
         (now (values .entry)) (now (values .exit)) r ⌝ }
 {
     let answer = bench_list(t, n, s, scratch, wires, registers, values);
-    clear(scratch, 0, n * 4);
+    clear(scratch, 0, n * ROOM);
     answer
 }
 
 // The call on a table that meets none of grounds 1 to 10.
 fn bench_checked(t: &[u8], s: &[u8], values: &mut [u32], scratch: &mut [u16]) -> Benched
-    requires { ⌜ checkCall (now t) (length (now values)) 1 (length (now scratch)) 4 ≡ Passed ⌝ }
-    ensures { λ r. ⌜ Benches
-        (buffers (now (t .entry)) (now (values .entry)) (now (scratch .entry))
-        (now (values .exit)) (now (scratch .exit)))
-        (now (s .entry)) r ⌝ }
+    requires { ⌜ checked (benching (now s)) (lent (now t) (now values) (now scratch)) ≡ Passed ⌝ }
+    ensures { λ r. ⌜ Benches (now (s .entry))
+        (lent (now (t .entry)) (now (values .entry)) (now (scratch .entry)))
+        (left (now (values .exit)) (now (scratch .exit))) r ⌝ }
 {
     let n = t.len() / 16;
-    let outcome = schedule(t, n, n * 4, scratch);
+    let outcome = schedule(t, n, n * ROOM, scratch);
     match outcome {
         Outcome::Loop(size) => Benched::Refused(Ground::Loop, size),
         Outcome::Order(wires, registers) => {
@@ -104,12 +106,11 @@ fn bench_checked(t: &[u8], s: &[u8], values: &mut [u32], scratch: &mut [u16]) ->
 
 // The bench call.
 pub fn bench(table: &[u8], stimuli: &[u8], values: &mut [u32], scratch: &mut [u16]) -> Benched
-    ensures { λ r. ⌜ Benches
-        (buffers (now (table .entry)) (now (values .entry)) (now (scratch .entry))
-        (now (values .exit)) (now (scratch .exit)))
-        (now (stimuli .entry)) r ⌝ }
+    ensures { λ r. ⌜ Benches (now (stimuli .entry))
+        (lent (now (table .entry)) (now (values .entry)) (now (scratch .entry)))
+        (left (now (values .exit)) (now (scratch .exit))) r ⌝ }
 {
-    let check = check_call(table, values.len(), 1, scratch.len(), 4);
+    let check = check_call(table, values.len(), EACH, scratch.len(), ROOM);
     match check {
         Check::Refused(ground, place) => Benched::Refused(ground, place),
         Check::Passed => bench_checked(table, stimuli, values, scratch),

@@ -1,19 +1,17 @@
 // Stimuli one after another, each on the state that the one before left.
 ghost use mathlib.Core.Path.{_≡_};
-ghost use Prim.Native.Nat.{_+_, _*_, _≤_, _<_};
-ghost use lib.ListN.{length, take};
+ghost use Prim.Native.Nat.{_+_, _*_, _<_};
 ghost use Rattle.net.specs.declared.Stimulus.the-variants.{Poke};
 ghost use Rattle.net.specs.Machine as net;
+ghost use Rattle.buffer.specs.Kept.{KeptOutside};
+ghost use Rattle.buffer.specs.Store.{numbers, Moves};
 ghost use Rattle.circuit.specs.declared.refusal.Check.the-variants.{Passed};
 ghost use Rattle.circuit.specs.declared.stimulus.ReadStimulus.the-variants.{Read};
 ghost use Rattle.circuit.specs.Circuit.{circuit, graph};
-ghost use Rattle.circuit.specs.Checks.{checkRecords};
 ghost use Rattle.circuit.specs.Machine as definition;
 ghost use Rattle.circuit.specs.Stimuli.{stimuli, checkStimulus, checkStimuli};
-ghost use Rattle.schedule.specs.Schedule.{Ordered};
-ghost use Rattle.schedule.specs.Scratch.{KeptOutside};
-ghost use Rattle.machine.specs.State.{state, Holds};
-ghost use Rattle.machine.specs.Ready.{Ready};
+ghost use Rattle.engine.specs.Ready.{Wired, Ready};
+ghost use Rattle.machine.specs.Promise.{room};
 use crate::pass::settle;
 use crate::reader::stimulus_at;
 use crate::tick::tick;
@@ -22,11 +20,10 @@ use net::Stimulus;
 
 // A poke sets one input, and the wires follow.
 fn poke(t: &[u8], n: usize, scratch: &[u16], wires: usize, values: &mut [u32], v: usize, x: u32)
-    requires { ⌜ (n * 16 ≤ length (now t)) × (n ≤ length (now values)) × (wires ≤ length (now scratch)) × (v < n) ⌝ }
-    requires { ⌜ checkRecords (now t) n ≡ Passed ⌝ }
-    requires { ⌜ Ordered (circuit (now t) n) (take wires (now scratch)) ⌝ }
-    ensures { λ _. ⌜ Holds n (net.act (graph (circuit (now (t .entry)) n))
-        (definition.values (circuit (now (t .entry)) n)) (Poke v x) (state (now (values .entry))))
+    requires { ⌜ Wired numbers (now t) n (now scratch) wires (now values) ⌝ }
+    requires { ⌜ v < n ⌝ }
+    ensures { λ _. ⌜ Moves numbers n (net.act (graph (circuit (now (t .entry)) n))
+        (definition.values (circuit (now (t .entry)) n)) (Poke v x))
         (now (values .entry)) (now (values .exit)) ⌝ }
 {
     values[v] = x;
@@ -43,12 +40,11 @@ fn act(
     values: &mut [u32],
     stimulus: Stimulus,
 )
-    requires { ⌜ Ready (now t) n (now scratch) wires registers ⌝ }
-    requires { ⌜ n ≤ length (now values) ⌝ }
+    requires { ⌜ Ready numbers room (now t) n (now scratch) wires registers (now values) ⌝ }
     requires { ⌜ checkStimulus (circuit (now t) n) (Read stimulus) 0 ≡ Passed ⌝ }
-    ensures { λ _. ⌜ KeptOutside (n + n) (n * 4) (now (scratch .entry)) (now (scratch .exit)) ⌝ }
-    ensures { λ _. ⌜ Holds n (net.act (graph (circuit (now (t .entry)) n))
-        (definition.values (circuit (now (t .entry)) n)) stimulus (state (now (values .entry))))
+    ensures { λ _. ⌜ KeptOutside (n + n) (n * room) (now (scratch .entry)) (now (scratch .exit)) ⌝ }
+    ensures { λ _. ⌜ Moves numbers n (net.act (graph (circuit (now (t .entry)) n))
+        (definition.values (circuit (now (t .entry)) n)) stimulus)
         (now (values .entry)) (now (values .exit)) ⌝ }
 {
     match stimulus {
@@ -67,12 +63,11 @@ pub fn run(
     registers: usize,
     values: &mut [u32],
 )
-    requires { ⌜ Ready (now t) n (now scratch) wires registers ⌝ }
-    requires { ⌜ n ≤ length (now values) ⌝ }
+    requires { ⌜ Ready numbers room (now t) n (now scratch) wires registers (now values) ⌝ }
     requires { ⌜ checkStimuli (circuit (now t) n) (now s) ≡ Passed ⌝ }
-    ensures { λ _. ⌜ KeptOutside (n + n) (n * 4) (now (scratch .entry)) (now (scratch .exit)) ⌝ }
-    ensures { λ _. ⌜ Holds n (net.run (graph (circuit (now (t .entry)) n))
-        (definition.values (circuit (now (t .entry)) n)) (stimuli (now (s .entry))) (state (now (values .entry))))
+    ensures { λ _. ⌜ KeptOutside (n + n) (n * room) (now (scratch .entry)) (now (scratch .exit)) ⌝ }
+    ensures { λ _. ⌜ Moves numbers n (net.run (graph (circuit (now (t .entry)) n))
+        (definition.values (circuit (now (t .entry)) n)) (stimuli (now (s .entry))))
         (now (values .entry)) (now (values .exit)) ⌝ }
 {
     let count = s.len() / 8;

@@ -1,15 +1,16 @@
 // A tick: the registers' next values are staged, all from the same state, and then written together; the wires follow.
-ghost use Prim.Native.Nat.{_+_, _*_, _≤_};
-ghost use lib.ListN.{length};
+ghost use Prim.Native.Nat.{_+_, _*_};
 ghost use Rattle.net.specs.declared.Stimulus.the-variants.{Tick};
 ghost use Rattle.net.specs.Net.{step};
 ghost use Rattle.net.specs.Machine as net;
+ghost use Rattle.buffer.specs.Kept.{KeptOutside};
+ghost use Rattle.buffer.specs.Store.{numbers, Stands, Moves};
 ghost use Rattle.circuit.specs.Circuit.{circuit, graph};
 ghost use Rattle.circuit.specs.Machine as definition;
-ghost use Rattle.schedule.specs.Scratch.{KeptOutside};
-ghost use Rattle.machine.specs.State.{state, Holds};
-ghost use Rattle.machine.specs.Staging.{StagedTo};
-ghost use Rattle.machine.specs.Ready.{Ready};
+ghost use Rattle.engine.specs.Ready.{Ready};
+ghost use Rattle.machine.specs.State.{state};
+ghost use Rattle.machine.specs.Staging.{halves, staged};
+ghost use Rattle.machine.specs.Promise.{room};
 use crate::halves::load;
 use crate::halves::store;
 use crate::pass::register_value;
@@ -18,11 +19,10 @@ use circuit::number::wide;
 
 // Stages the registers' next values.
 fn stage(t: &[u8], n: usize, scratch: &mut [u16], wires: usize, registers: usize, values: &[u32])
-    requires { ⌜ Ready (now t) n (now scratch) wires registers ⌝ }
-    requires { ⌜ n ≤ length (now values) ⌝ }
-    ensures { λ _. ⌜ KeptOutside (n + n) (n * 4) (now (scratch .entry)) (now (scratch .exit)) ⌝ }
-    ensures { λ _. ⌜ StagedTo (circuit (now (t .entry)) n) (state (now (values .entry)))
-        (now (scratch .exit)) (n + n) registers ⌝ }
+    requires { ⌜ Ready numbers room (now t) n (now scratch) wires registers (now values) ⌝ }
+    ensures { λ _. ⌜ KeptOutside (n + n) (n * room) (now (scratch .entry)) (now (scratch .exit)) ⌝ }
+    ensures { λ _. ⌜ Stands halves (n + n) registers (staged (circuit (now (t .entry)) n) (state (now (values .entry))))
+        (now (scratch .exit)) ⌝ }
 {
     let mut j: usize = 0;
     while j < registers {
@@ -35,11 +35,10 @@ fn stage(t: &[u8], n: usize, scratch: &mut [u16], wires: usize, registers: usize
 
 // Writes the staged values, all together. The table is there for the contract alone.
 fn commit(t: &[u8], n: usize, scratch: &[u16], wires: usize, registers: usize, values: &mut [u32])
-    requires { ⌜ Ready (now t) n (now scratch) wires registers ⌝ }
-    requires { ⌜ n ≤ length (now values) ⌝ }
-    requires { ⌜ StagedTo (circuit (now t) n) (state (now values)) (now scratch) (n + n) registers ⌝ }
-    ensures { λ _. ⌜ Holds n (step (graph (circuit (now (t .entry)) n)) (definition.values (circuit (now (t .entry)) n))
-        (state (now (values .entry))))
+    requires { ⌜ Ready numbers room (now t) n (now scratch) wires registers (now values) ⌝ }
+    requires { ⌜ Stands halves (n + n) registers (staged (circuit (now t) n) (state (now values))) (now scratch) ⌝ }
+    ensures { λ _. ⌜ Moves numbers n (step (graph (circuit (now (t .entry)) n))
+        (definition.values (circuit (now (t .entry)) n)))
         (now (values .entry)) (now (values .exit)) ⌝ }
 {
     let mut j: usize = 0;
@@ -60,11 +59,10 @@ pub fn tick(
     registers: usize,
     values: &mut [u32],
 )
-    requires { ⌜ Ready (now t) n (now scratch) wires registers ⌝ }
-    requires { ⌜ n ≤ length (now values) ⌝ }
-    ensures { λ _. ⌜ KeptOutside (n + n) (n * 4) (now (scratch .entry)) (now (scratch .exit)) ⌝ }
-    ensures { λ _. ⌜ Holds n (net.act (graph (circuit (now (t .entry)) n))
-        (definition.values (circuit (now (t .entry)) n)) Tick (state (now (values .entry))))
+    requires { ⌜ Ready numbers room (now t) n (now scratch) wires registers (now values) ⌝ }
+    ensures { λ _. ⌜ KeptOutside (n + n) (n * room) (now (scratch .entry)) (now (scratch .exit)) ⌝ }
+    ensures { λ _. ⌜ Moves numbers n (net.act (graph (circuit (now (t .entry)) n))
+        (definition.values (circuit (now (t .entry)) n)) Tick)
         (now (values .entry)) (now (values .exit)) ⌝ }
 {
     stage(t, n, scratch, wires, registers, values);

@@ -1,6 +1,8 @@
+pub mod Cases
 pub mod Bools
 pub mod Sums
 pub mod Lists
+pub mod Put
 pub mod Settle
 pub mod Loops
 pub mod Rounds

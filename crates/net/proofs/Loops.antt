@@ -74,6 +74,29 @@ distinct-getD (x ∷ xs) d (suc i) (suc j) h k e =
     ap suc (distinct-getD xs (and-right (not (member x xs)) (distinct xs) d) i j (le-of-suc-le-suc h)
     (le-of-suc-le-suc k) e)
 
+-- what stands in a list stands at a place of it
+pub member-place : (u : ℕ) (l : List ℕ) → T (member u l) → (i : ℕ) × (i < length l) × (getD l i 0 ≡ u)
+unfolding member
+member-place u [] m = absurd m
+member-place u (x ∷ xs) m =
+    or-cases (eqb u x) (member u xs) m
+    (λ e. (zero, omega arith, sym (eqb→eq u x e)))
+    (λ k. let (i, h, e) = member-place u xs k in (suc i, omega arith, e))
+
+distinct-of : (l : List ℕ) → ((i j : ℕ) → i < length l → j < length l → getD l i 0 ≡ getD l j 0 → i ≡ j)
+    → T (distinct l)
+unfolding distinct
+distinct-of [] d = tt
+distinct-of (x ∷ xs) d =
+    and-both (not (member x xs)) (distinct xs)
+    (by-test (member x xs)
+    (λ m.
+    let (i, h, e) = member-place x xs m in
+    let z : suc i ≡ zero = d (suc i) zero (omega arith) (omega arith) e in absurd (omega arith))
+    (λ q. q))
+    (distinct-of xs (λ i j h k e.
+    let z : suc i ≡ suc j = d (suc i) (suc j) (omega arith) (omega arith) e in omega arith))
+
 -- what stands before x
 before : ℕ → List ℕ → List ℕ
 before x [] = []
@@ -250,10 +273,6 @@ module _ (g : Graph) (inside : (v u : ℕ) → v < g .size → Uses g v u → u 
   Path-to end x [] = Wire x × Uses g x end
   Path-to end x (y ∷ ys) = Wire x × Uses g x y × Path-to end y ys
 
-  chain-wire : (x : ℕ) (l : List ℕ) → Chain x l → Wire x
-  chain-wire x [] c = c
-  chain-wire x (y ∷ ys) c = c .0
-
   chain : (k v : ℕ) → v < g .size → T (not (layer g k v)) → (l : List ℕ) × (length l ≡ k) × Chain v l
   chain zero v h q = ([], refl, (h, outside g zero v q))
   chain (suc k) v h q =
@@ -361,3 +380,9 @@ ranked-no-loop r row loop =
       rank-falls r row loop (length row - 1) (omega (arith, loop .some)),
       r .falls _ _ inside is-wire (loop .wires 0 (loop .some) .1) (loop .back),
     )
+
+-- a loop has no more wires than the net has variables
+pub loop-short : {g : Graph} {row : List ℕ} → Loop g row → length row ≤ g .size
+loop-short {g} {row} loop =
+    distinct-few row (g .size) (distinct-of row (loop .distinct))
+    (λ v m. let (i, h, e) = member-place v row m in rw (← e) (loop .wires i h .0))

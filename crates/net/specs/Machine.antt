@@ -1,16 +1,10 @@
 -- Document 01's bench machine, as a net of numbers: its state is one number a variable, and a tick is a round.
 -- Assumes nothing.
-use mathlib.Core.Bool.{true, false}
 use mathlib.Core.List.{List, [], _∷_}
 use Prim.Native.Nat.{ℕ}
-use lib.Dec.{eqb}
 use Rattle.net.specs.declared.Stimulus.{Stimulus}
 use Rattle.net.specs.declared.Stimulus.the-variants.{Poke, Tick}
-use Rattle.net.specs.Net.{Graph, settle, round}
-
--- the state with x at variable i
-unfoldable pub put : (ℕ → ℕ) → ℕ → ℕ → ℕ → ℕ
-put s i x v = elim (eqb v i) [ true ↦ x | false ↦ s v ]
+use Rattle.net.specs.Net.{Graph, put, settle, round}
 
 module _ (g : Graph) (f : (ℕ → ℕ) → ℕ → ℕ) where
   -- document 01's poke sets one input (ground 15 turns away every other variable), its tick moves all registers

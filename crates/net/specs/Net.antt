@@ -6,6 +6,7 @@ use mathlib.Core.Path.{_≡_}
 use mathlib.Core.Bool.{Bool, true, false}
 use mathlib.Core.List.{List, [], _∷_}
 use Prim.Native.Nat.{ℕ, zero, suc, _+_, _<_}
+use lib.Dec.{eqb}
 use Rattle.net.specs.Tests.{allBelow}
 
 -- what a variable is; document 01's wires are its constants, operators and multiplexers
@@ -32,6 +33,10 @@ sumRegisters g h = sumBelow (λ v. elim (g .role v) [ input ↦ zero | wire ↦ 
 unfoldable pub listBelow : {A : Type 0} → (ℕ → A) → ℕ → List A
 listBelow s zero = []
 listBelow s (suc n) = s zero ∷ listBelow (λ v. s (suc v)) n
+
+-- the store with x at variable i
+unfoldable pub put : {A : Type 0} → (ℕ → A) → ℕ → A → ℕ → A
+put s i x v = elim (eqb v i) [ true ↦ x | false ↦ s v ]
 
 -- `f s v` is what variable v gets from the store s. Sweeps and steps leave inputs as they are.
 module _ {A : Type 0} (g : Graph) (f : (ℕ → A) → ℕ → A) where
@@ -94,8 +99,8 @@ module _ {A : Type 0} (g : Graph) (f : (ℕ → A) → ℕ → A) where
   Settled s = (v : ℕ) → v < g .size → g .role v ≡ wire → s v ≡ f s v
 
   -- every variable of the store holds what its rule gives
-  abbrev pub Fixed : (ℕ → A) → Type 0
-  Fixed s = (v : ℕ) → v < g .size → s v ≡ f s v
+  abbrev pub Fixpoint : (ℕ → A) → Type 0
+  Fixpoint s = (v : ℕ) → v < g .size → s v ≡ f s v
 
   -- document 01's closed: every variable of the store is at or above what its rule gives from that store
   abbrev pub Closed : (A → A → Type 0) → (ℕ → A) → Type 0

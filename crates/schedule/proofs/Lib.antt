@@ -1,15 +1,8 @@
-pub mod Cases
-pub mod Update
 pub mod Sums
 pub mod Uses
 pub mod Registers
 pub mod Invariant
-pub mod Filled
 pub mod Rotation
 pub mod Steps
 pub mod Outcomes
 pub mod Orders
-pub mod Along
-pub mod Standing
-pub mod Together
-pub mod Calls

@@ -1,18 +1,19 @@
 -- An order of a circuit's wires shows that there is no loop: what a wire of a loop uses next stands before it in the
--- order, and so on without end. So the circuit has a rank.
+-- order, and so on without end. So the circuit has a rank. And what stands in the scratch that the schedule leaves.
 -- Assumes nothing.
-use mathlib.Core.Path.{_≡_}
-use mathlib.Core.List.{List}
-use Prim.Native.Nat.{ℕ, zero, suc, _+_, _-_, _<_}
+use mathlib.Core.Path.{_≡_, sym, ap, _∙_, subst}
+use mathlib.Core.List.{List, _++_, append-assoc}
+use Prim.Native.Nat.{ℕ, zero, suc, _+_, _-_, _≤_, _<_}
 use native.Mathlib.Nat.{not-suc-le-zero}
 use native.Mathlib.Omega.{arith}
-use lib.ListN.{length, getD}
+use lib.ListN.{length, getD, take, drop, replicate, length-append, length-replicate, List·getD-append}
+use lib.Seq.{take-at, drop-at, getD-append-add}
 use Rattle.net.specs.Loop.{Uses, Loop}
 use Rattle.net.proofs.Settle.{Ranked}
 use Rattle.circuit.specs.Circuit.{Circuit, graph, NoLoop}
 use Rattle.circuit.proofs.Tables.{Inside, circuit-ranked}
-use Rattle.schedule.specs.Schedule.{Ordered}
-use Rattle.schedule.proofs.Cases.{by-same}
+use Rattle.schedule.specs.Schedule.{registerList, Listed, Ordered, IsOrder}
+use Rattle.net.proofs.Cases.{by-same}
 
 module _ (c : Circuit) (order : List ℕ) (ordered : Ordered c order) (row : List ℕ) (loop : Loop (graph c) row) where
   -- every wire of a loop uses a wire of the loop
@@ -38,3 +39,50 @@ ordered-no-loop c order ordered row loop =
 
 pub ordered-ranked : (c : Circuit) (order : List ℕ) → Inside c → Ordered c order → Ranked (graph c)
 ordered-ranked c order inside ordered = circuit-ranked c inside (ordered-no-loop c order ordered)
+
+-- ---- an order as the schedule leaves it
+
+module _ {c : Circuit} {part : ℕ} {entry scratch : List ℕ} {wires registers : ℕ}
+    (o : IsOrder c part entry scratch wires registers)
+    (room : wires + registers ≤ part) where
+  rest : List ℕ
+  rest = registerList c ++ (replicate (part - (wires + registers)) 0 ++ drop part entry)
+
+  pub order-taken : Ordered c (take wires scratch)
+  unfolding rest
+  order-taken =
+      subst (λ (l : List ℕ). Ordered c l)
+      (sym (ap (take wires) (o .scratch) ∙ take-at (o .order) rest wires (o .order-length))) (o .ordered)
+
+  pub order-listed : Listed c scratch wires
+  unfolding rest
+  order-listed j h =
+      ap (λ (l : List ℕ). getD l (wires + j) 0) (o .scratch)
+      ∙ subst (λ (k : ℕ). getD (o .order ++ rest) (k + j) 0 ≡ getD rest j 0) (o .order-length)
+      (getD-append-add (o .order) rest j 0)
+      ∙ List·getD-append (registerList c) (replicate (part - (wires + registers)) 0 ++ drop part entry) 0 j h
+
+  front : List ℕ
+  front = o .order ++ (registerList c ++ replicate (part - (wires + registers)) 0)
+
+  front-length : length front ≡ part
+  unfolding front
+  front-length =
+      length-append (o .order) (registerList c ++ replicate (part - (wires + registers)) 0)
+      ∙ omega (
+        arith,
+        length-append (registerList c) (replicate (part - (wires + registers)) 0),
+        length-replicate {A = ℕ} (part - (wires + registers)) 0,
+        o .order-length,
+        o .registers-length,
+      )
+
+  whole : scratch ≡ front ++ drop part entry
+  unfolding front
+  whole = o .scratch ∙ simp append-assoc
+
+  pub order-past : drop part scratch ≡ drop part entry
+  order-past = ap (drop part) whole ∙ drop-at front (drop part entry) part front-length
+
+  pub order-room : part ≤ length scratch
+  order-room = omega (arith, ap length whole, length-append front (drop part entry), front-length)

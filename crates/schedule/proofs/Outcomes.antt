@@ -9,10 +9,11 @@ use lib.Seq.{length-take-le, getD-take, getD-append-add}
 use Rattle.circuit.specs.Circuit.{circuit}
 use Rattle.circuit.proofs.Tables.{circuit-length}
 use Rattle.schedule.specs.Schedule.{registerList, IsOrder, IsLoop}
-use Rattle.schedule.specs.Scratch.{Kept, Filled, Shown}
+use Rattle.buffer.specs.Kept.{Kept, Filled}
+use Rattle.schedule.specs.Shown.{Shown}
 use Rattle.schedule.specs.Walk.{AllFinished, StackCloses}
-use Rattle.schedule.proofs.Cases.{by-le}
-use Rattle.schedule.proofs.Filled.{filled-zero, in-part}
+use Rattle.net.proofs.Cases.{by-le}
+use Rattle.buffer.proofs.Filled.{filled-zero, in-part}
 use Rattle.schedule.proofs.Rotation.{shown-loop, shown-lowest}
 
 module _ {t : List ℕ} {n : ℕ} (part : ℕ) {s₀ s₁ s₂ s₃ : List ℕ} (enough : n + n ≤ part) (lent : part ≤ length s₀)

@@ -16,7 +16,7 @@ use Rattle.net.proofs.Bools.{true-false}
 use Rattle.circuit.specs.Record.{role, isRegister}
 use Rattle.circuit.specs.Circuit.{Circuit, recordOf}
 use Rattle.schedule.specs.Schedule.{registersFrom, registerList}
-use Rattle.schedule.proofs.Cases.{by-same}
+use Rattle.net.proofs.Cases.{by-same}
 use Rattle.schedule.proofs.Uses.{register-role, role-register}
 
 by-bool : {P : Type 0} (b : Bool) → (b ≡ true → P) → (b ≡ false → P) → P

@@ -10,18 +10,19 @@ use lib.ListN.{length, getD}
 use Rattle.net.specs.Loop.{Loop, LowestFirst}
 use Rattle.circuit.specs.Circuit.{circuit, graph}
 use Rattle.circuit.proofs.Tables.{circuit-length}
-use Rattle.schedule.specs.Scratch.{Filled, rotation, Shown}
+use Rattle.buffer.specs.Kept.{Filled}
+use Rattle.schedule.specs.Shown.{rotation, Shown}
 use Rattle.schedule.specs.Walk.{StackCloses}
-use Rattle.schedule.proofs.Cases.{by-same, by-le}
+use Rattle.net.proofs.Cases.{by-same, by-le}
 use Rattle.schedule.proofs.Uses.{last-wire}
-use Rattle.schedule.proofs.Filled.{filled-kept, kept-trans}
+use Rattle.buffer.proofs.Filled.{filled-kept, kept-trans}
 
 -- the lowest so far, and one more
-pub lowest-more : (cell : ℕ → ℕ) (top i m m′ : ℕ) → ((j : ℕ) → top ≤ j → j ≤ i → cell m ≤ cell j)
-    → cell m′ ≤ cell m → cell m′ ≤ cell (i + 1)
-    → (j : ℕ) → top ≤ j → j ≤ i + 1 → cell m′ ≤ cell j
-lowest-more cell top i m m′ h a b j l l′ =
-    by-same j (i + 1) (λ q. omega (arith, ap cell q)) (λ q. omega (arith, h j l (omega arith)))
+pub lowest-more : (slot : ℕ → ℕ) (top i m m′ : ℕ) → ((j : ℕ) → top ≤ j → j ≤ i → slot m ≤ slot j)
+    → slot m′ ≤ slot m → slot m′ ≤ slot (i + 1)
+    → (j : ℕ) → top ≤ j → j ≤ i + 1 → slot m′ ≤ slot j
+lowest-more slot top i m m′ h a b j l l′ =
+    by-same j (i + 1) (λ q. omega (arith, ap slot q)) (λ q. omega (arith, h j l (omega arith)))
 
 -- ---- the places of the row
 

@@ -4,10 +4,10 @@ use mathlib.Core.Path.{_≡_, refl, ap}
 use Prim.Native.Nat.{ℕ, zero, suc, _+_, _*_, _≤_, _<_, zero-le}
 use native.Mathlib.Nat.{mul-suc, not-suc-le-zero}
 use native.Mathlib.Omega.{arith}
-use Rattle.net.specs.Net.{sumBelow}
+use Rattle.net.specs.Net.{sumBelow, put}
 use Rattle.net.proofs.Bools.{last-or}
 use Rattle.schedule.specs.Walk.{sign, countVisited}
-use Rattle.schedule.proofs.Update.{update, update-same, update-other}
+use Rattle.net.proofs.Put.{put-same, put-other}
 
 sum-same : (f g : ℕ → ℕ) (n : ℕ) → ((x : ℕ) → x < n → g x ≡ f x) → sumBelow g n ≡ sumBelow f n
 unfolding sumBelow
@@ -55,7 +55,7 @@ visited-most state n = omega (arith, sum-most (λ v. sign (state v)) 1 n (λ x l
 -- an unvisited variable leaves room
 pub visited-less : (state : ℕ → ℕ) (n u : ℕ) → u < n → state u ≡ 0 → countVisited state n < n
 visited-less state n u l z =
-    let after : ℕ → ℕ = update state u 1 in
+    let after : ℕ → ℕ = put state u 1 in
     let change : countVisited after n + sign (state u) ≡ countVisited state n + sign (after u) =
-    sum-change (λ v. sign (state v)) (λ v. sign (after v)) n u l (λ x ne. ap sign (update-other state u 1 x ne)) in
-    omega (arith, change, ap sign z, ap sign (update-same state u 1), visited-most after n)
+    sum-change (λ v. sign (state v)) (λ v. sign (after v)) n u l (λ x ne. ap sign (put-other state u 1 x ne)) in
+    omega (arith, change, ap sign z, ap sign (put-same state u 1), visited-most after n)

@@ -2,17 +2,15 @@
 -- Assumes nothing.
 use mathlib.Core.Path.{_≡_, refl, sym, ap, _∙_}
 use mathlib.Core.Bool.{true, false}
-use mathlib.Core.List.{List, [], _∷_}
+use mathlib.Core.List.{List}
 use Prim.Native.Nat.{ℕ, suc, _+_, _*_, _≤_, _<_}
 use native.Mathlib.Nat.{not-suc-le-zero}
 use native.Mathlib.Omega.{arith}
-use lib.Dec.{T, eqb, eqb→eq}
 use lib.ListN.{length, getD}
 use Rattle.net.specs.Net.{wire, register}
-use Rattle.net.specs.Tests.{member}
 use Rattle.net.specs.Loop.{Uses}
-use Rattle.net.proofs.Bools.{true-false, or-cases}
-use Rattle.net.proofs.Loops.{member-getD}
+use Rattle.net.proofs.Bools.{true-false}
+use Rattle.net.proofs.Loops.{member-getD, member-place}
 use Rattle.net.proofs.Settle.{by-role}
 use Rattle.circuit.specs.declared.record.Record.{Record}
 use Rattle.circuit.specs.declared.record.Record.the-variants.{Input, Constant, Operator, Multiplexer, Register}
@@ -21,16 +19,6 @@ use Rattle.circuit.specs.Reading.{fieldsAt, decode}
 use Rattle.circuit.specs.Circuit.{Circuit, circuit, recordOf, graph}
 use Rattle.circuit.proofs.Tables.{Inside, circuit-record}
 use Rattle.schedule.specs.Walk.{last, used}
-
--- ---- members of a list and their places
-
-member-place : (u : ℕ) (l : List ℕ) → T (member u l) → (k : ℕ) × (k < length l) × (getD l k 0 ≡ u)
-unfolding member
-member-place u [] m = absurd m
-member-place u (x ∷ xs) m =
-    or-cases (eqb u x) (member u xs) m
-    (λ e. (0, omega arith, sym (eqb→eq u x e)))
-    (λ q. let (k, h, e) = member-place u xs q in (suc k, omega arith, e))
 
 -- ---- records
 

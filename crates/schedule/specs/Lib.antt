@@ -1,4 +1,3 @@
 pub mod Schedule
-pub mod Scratch
+pub mod Shown
 pub mod Walk
-pub mod Call

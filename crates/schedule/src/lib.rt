@@ -1,14 +1,12 @@
 // The schedule of a circuit: its wires in an order in which each stands after the wires that it uses, or a loop. In
 // linear time, without recursion, in lent memory.
 ghost use mathlib.Core.Path.{_≡_};
-ghost use Prim.Native.Nat.{_+_, _-_, _*_, _≤_, _<_};
+ghost use Prim.Native.Nat.{_+_, _-_, _≤_, _<_};
 ghost use lib.ListN.{length, getD};
-ghost use Rattle.circuit.specs.declared.refusal.Check.the-variants.{Passed};
 ghost use Rattle.circuit.specs.Circuit.{circuit};
-ghost use Rattle.circuit.specs.Checks.{checkRecords};
+ghost use Rattle.circuit.specs.Checks.{Checked};
 ghost use Rattle.schedule.specs.Schedule.{registerList, Scheduled};
-ghost use Rattle.schedule.specs.Scratch.{Filled};
-ghost use Rattle.schedule.specs.Walk.{Table};
+ghost use Rattle.buffer.specs.Kept.{Filled};
 use crate::rotate::show_loop;
 use crate::walk::Visited;
 use crate::walk::visit_all;
@@ -37,7 +35,7 @@ pub fn clear(s: &mut [u16], from: usize, to: usize)
 
 // Writes the registers behind the wires, ascending. How many there are.
 fn add_registers(t: &[u8], n: usize, s: &mut [u16], wires: usize) -> usize
-    requires { ⌜ Table (now t) n ⌝ }
+    requires { ⌜ Checked (now t) n ⌝ }
     requires { ⌜ (n ≤ length (now s)) × (wires + length (registerList (circuit (now t) n)) ≤ n) ⌝ }
     ensures { λ r. ⌜ r ≡ length (registerList (circuit (now (t .entry)) n)) ⌝ }
     ensures { λ r. ⌜ Filled wires r (λ i. getD (registerList (circuit (now (t .entry)) n)) i 0)
@@ -59,8 +57,7 @@ fn add_registers(t: &[u8], n: usize, s: &mut [u16], wires: usize) -> usize
 // In the lent scratch: the wires in an order in which each stands after the wires that it uses, and then the
 // registers, ascending; or a loop, its lowest variable first. The rest of the part is 0.
 pub fn schedule(t: &[u8], n: usize, part: usize, scratch: &mut [u16]) -> Outcome
-    requires { ⌜ (n ≤ 4096) × (n * 16 ≤ length (now t)) ⌝ }
-    requires { ⌜ checkRecords (now t) n ≡ Passed ⌝ }
+    requires { ⌜ Checked (now t) n ⌝ }
     requires { ⌜ (n + n ≤ part) × (part ≤ length (now scratch)) ⌝ }
     ensures { λ r. ⌜ Scheduled (circuit (now (t .entry)) n) part (now (scratch .entry)) (now (scratch .exit)) r ⌝ }
 {

@@ -2,7 +2,8 @@
 ghost use mathlib.Core.Path.{_≡_};
 ghost use Prim.Native.Nat.{ℕ, _+_, _-_, _≤_, _<_};
 ghost use lib.ListN.{length, getD};
-ghost use Rattle.schedule.specs.Scratch.{Filled, rotation, Shown};
+ghost use Rattle.buffer.specs.Kept.{Filled};
+ghost use Rattle.schedule.specs.Shown.{rotation, Shown};
 use circuit::number::wide;
 
 // The place of u on the stack.

@@ -4,12 +4,16 @@ ghost use mathlib.Core.Path.{_≡_};
 ghost use Prim.Native.Nat.{ℕ, _+_, _-_, _≤_, _<_};
 ghost use lib.ListN.{length, getD, set};
 ghost use Rattle.circuit.specs.Circuit.{circuit};
-ghost use Rattle.schedule.specs.Scratch.{Kept};
-ghost use Rattle.schedule.specs.Walk.{Table, last, used, stateOf};
-ghost use Rattle.schedule.specs.Walk.{Walking, Progress, IsNextUse, Stepped, IsVisited};
+ghost use Rattle.circuit.specs.Checks.{Checked};
+ghost use Rattle.buffer.specs.Kept.{Kept};
+ghost use Rattle.schedule.specs.Walk.{finishedState, last, used, stateOf};
+ghost use Rattle.schedule.specs.Walk.{Walking, Progress, IsNextUse, TopVisited, IsVisited};
 use circuit::number::wide;
 use circuit::table::use_at;
 use circuit::table::wire_uses;
+
+// The state of a finished wire.
+const FINISHED: u16 = 5;
 
 // The next variable to start from, how many wires are finished, and where the top of the stack stands.
 pub struct Walk {
@@ -41,7 +45,7 @@ pub enum Visited {
 
 // The state of a wire in which all its uses are done; 0 for what is no wire.
 fn last_state(t: &[u8], n: usize, v: usize) -> usize
-    requires { ⌜ Table (now t) n ⌝ }
+    requires { ⌜ Checked (now t) n ⌝ }
     requires { ⌜ v < n ⌝ }
     ensures { λ r. ⌜ r ≡ last (circuit (now (t .entry)) n) v ⌝ }
 {
@@ -50,7 +54,7 @@ fn last_state(t: &[u8], n: usize, v: usize) -> usize
 
 // Variable k, counted from 0, of those that wire v uses.
 fn used_at(t: &[u8], n: usize, v: usize, k: usize) -> usize
-    requires { ⌜ Table (now t) n ⌝ }
+    requires { ⌜ Checked (now t) n ⌝ }
     requires { ⌜ v < n ⌝ }
     requires { ⌜ k + 1 < last (circuit (now t) n) v ⌝ }
     ensures { λ r. ⌜ r ≡ used (circuit (now (t .entry)) n) v k ⌝ }
@@ -78,10 +82,10 @@ fn push(s: &mut [u16], n: usize, u: usize, w: Walk) -> Walk
 fn pop(s: &mut [u16], n: usize, v: usize, w: Walk) -> Walk
     requires { ⌜ (n + n ≤ length (now s)) × (n ≤ 4096) × (v < n) × (w .finished < n) × (w .top < n) ⌝ }
     ensures { λ r. ⌜ (r .root ≡ w .root) × (r .finished ≡ w .finished + 1) × (r .top ≡ w .top + 1) ⌝ }
-    ensures { λ r. ⌜ now (s .exit) ≡ set (set (now (s .entry)) (n + v) 5) (w .finished) v ⌝ }
+    ensures { λ r. ⌜ now (s .exit) ≡ set (set (now (s .entry)) (n + v) finishedState) (w .finished) v ⌝ }
 {
     let finished = w.finished;
-    s[n + v] = 5;
+    s[n + v] = FINISHED;
     s[finished] = v as u16;
     Walk {
         root: w.root,
@@ -92,7 +96,7 @@ fn pop(s: &mut [u16], n: usize, v: usize, w: Walk) -> Walk
 
 // One more use is done.
 fn advance(s: &mut [u16], i: usize)
-    requires { ⌜ (i < length (now s)) × (i ≤ 8192) × (getD (now s) i 0 < 5) ⌝ }
+    requires { ⌜ (i < length (now s)) × (i ≤ 8192) × (getD (now s) i 0 < finishedState) ⌝ }
     ensures { λ _. ⌜ now (s .exit) ≡ set (now (s .entry)) i (getD (now (s .entry)) i 0 + 1) ⌝ }
 {
     let state = s[i];
@@ -101,8 +105,6 @@ fn advance(s: &mut [u16], i: usize)
 
 // With an empty stack: visits the next root if it is an unvisited wire, else goes on to the root after it.
 fn visit_root(t: &[u8], n: usize, s: &mut [u16], w: Walk) -> Walk
-    requires { ⌜ Table (now t) n ⌝ }
-    requires { ⌜ n + n ≤ length (now s) ⌝ }
     requires { ⌜ Walking (now t) n (now s) w ⌝ }
     requires { ⌜ (w .top ≡ n) × (w .root < n) ⌝ }
     ensures { λ r. ⌜ Progress (now (t .entry)) n (now (s .entry)) w (now (s .exit)) r ⌝ }
@@ -124,8 +126,6 @@ fn visit_root(t: &[u8], n: usize, s: &mut [u16], w: Walk) -> Walk
 
 // Looks at the next use of the top. One test finds it done, as a wire that is on the stack has uses left.
 fn next_use(t: &[u8], n: usize, s: &[u16], w: Walk) -> NextUse
-    requires { ⌜ Table (now t) n ⌝ }
-    requires { ⌜ n + n ≤ length (now s) ⌝ }
     requires { ⌜ Walking (now t) n (now s) w ⌝ }
     requires { ⌜ w .top < n ⌝ }
     ensures { λ r. ⌜ IsNextUse (now (t .entry)) n (now (s .entry)) w r ⌝ }
@@ -149,11 +149,9 @@ fn next_use(t: &[u8], n: usize, s: &[u16], w: Walk) -> NextUse
 
 // One step at the top. Its state is not advanced with a push: the same use is looked at again, and is then finished.
 fn visit_top(t: &[u8], n: usize, s: &mut [u16], w: Walk) -> Step
-    requires { ⌜ Table (now t) n ⌝ }
-    requires { ⌜ n + n ≤ length (now s) ⌝ }
     requires { ⌜ Walking (now t) n (now s) w ⌝ }
     requires { ⌜ w .top < n ⌝ }
-    ensures { λ r. ⌜ Stepped (now (t .entry)) n (now (s .entry)) w (now (s .exit)) r ⌝ }
+    ensures { λ r. ⌜ TopVisited (now (t .entry)) n (now (s .entry)) w (now (s .exit)) r ⌝ }
 {
     let next = next_use(t, n, s, w);
     match next {
@@ -169,7 +167,7 @@ fn visit_top(t: &[u8], n: usize, s: &mut [u16], w: Walk) -> Step
 
 // Visits every wire, or stops at a loop.
 pub fn visit_all(t: &[u8], n: usize, s: &mut [u16]) -> Visited
-    requires { ⌜ Table (now t) n ⌝ }
+    requires { ⌜ Checked (now t) n ⌝ }
     requires { ⌜ n + n ≤ length (now s) ⌝ }
     requires { ⌜ ((v : ℕ) → v < n → stateOf n (now s) v ≡ 0) ⌝ }
     ensures { λ r. ⌜ IsVisited (now (t .entry)) n (now (s .exit)) r ⌝ }

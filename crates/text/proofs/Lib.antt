@@ -2,3 +2,4 @@ pub mod Decimal
 pub mod Pieces
 pub mod Rows
 pub mod Answers
+pub mod Told

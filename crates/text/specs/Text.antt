@@ -11,10 +11,7 @@ use Rattle.circuit.specs.Refusal.{groundNumber}
 use Rattle.fact.specs.declared.Fact.{Fact}
 use Rattle.fact.specs.declared.Fact.the-variants.{Always, Open, Marked}
 use Rattle.fact.specs.Fact.{factAt}
-use Rattle.certificate.specs.declared.Certified.{Certified}
-use Rattle.certificate.specs.declared.Certified.the-variants as certified
-use Rattle.machine.specs.declared.Benched.{Benched}
-use Rattle.machine.specs.declared.Benched.the-variants as benched
+use Rattle.call.specs.Call.{Answer, accepted, refused}
 
 -- the digits of n in base ten, the most significant first; `fuel` is enough where it is more than n
 unfoldable pub digits : ℕ → ℕ → List ℕ
@@ -35,8 +32,8 @@ abbrev pub space : List ℕ
 space = 32 ∷ []
 
 -- "refused "
-abbrev pub refused : List ℕ
-refused = 114 ∷ 101 ∷ 102 ∷ 117 ∷ 115 ∷ 101 ∷ 100 ∷ 32 ∷ []
+abbrev pub isRefused : List ℕ
+isRefused = 114 ∷ 101 ∷ 102 ∷ 117 ∷ 115 ∷ 101 ∷ 100 ∷ 32 ∷ []
 
 -- " at "
 abbrev pub at : List ℕ
@@ -60,7 +57,7 @@ isMarked = 32 ∷ 109 ∷ 97 ∷ 114 ∷ 107 ∷ 101 ∷ 100 ∷ []
 
 -- a refusal's line: its number and place
 abbrev pub refusalLine : Ground → ℕ → List ℕ
-refusalLine g place = refused ++ (decimal (groundNumber g) ++ (at ++ (decimal place ++ newline)))
+refusalLine g place = isRefused ++ (decimal (groundNumber g) ++ (at ++ (decimal place ++ newline)))
 
 -- `count` pieces of text, of the numbers from i on
 unfoldable pub pieces : (ℕ → List ℕ) → ℕ → ℕ → List ℕ
@@ -109,12 +106,15 @@ refusalText g place s =
       | false ↦ refusalLine g place
     ]
 
--- all that is printed of the certifying call's answer on a table of n records
-abbrev pub certifiedText : Certified → ℕ → List ℕ → List ℕ → List ℕ
-certifiedText (certified.Accepted k) n cells s = roundsLine k ++ factLines cells n
-certifiedText (certified.Refused g place) n cells s = refusalText g place s
+-- all that is printed of an accepted table of n records: from the certificate's bytes and the rounds
+abbrev pub certifiedText : List ℕ → ℕ → ℕ → List ℕ
+certifiedText cells n k = roundsLine k ++ factLines cells n
 
--- all that is printed of the bench call's answer on a table of n records
-abbrev pub benchedText : Benched → ℕ → List ℕ → List ℕ → List ℕ
-benchedText benched.Accepted n values s = valueLines values n
-benchedText (benched.Refused g place) n values s = refusalText g place s
+-- all that is printed of an accepted list on a table of n records: from the values
+abbrev pub benchedText : List ℕ → ℕ → ℕ → List ℕ
+benchedText values n k = valueLines values n
+
+-- all that is printed of an answer: what an accepted one shows by the number that it carries, or a refusal
+abbrev pub answerText : (ℕ → List ℕ) → Answer → List ℕ → List ℕ
+answerText shown (accepted k) s = shown k
+answerText shown (refused g place) s = refusalText g place s

@@ -2,11 +2,13 @@
 // the buffer's end down, since a number's last digit comes out first; a function answers where the text begins.
 ghost use Prim.Native.Nat.{_≤_};
 ghost use lib.ListN.{length};
-ghost use Rattle.schedule.specs.Call.{buffers};
-ghost use Rattle.text.specs.Text.{refusalText, certifiedText, benchedText};
+ghost use Rattle.call.specs.Call.{lent, left};
+ghost use Rattle.certificate.specs.Promise as certified;
+ghost use Rattle.machine.specs.Promise as benched;
+ghost use Rattle.text.specs.Text.{refusalText, certifiedText, benchedText, answerText};
 ghost use Rattle.text.specs.Pieces.{Put};
-ghost use Rattle.text.specs.Prints.{ShowsRow, CertifiedStands, BenchedStands, CertifiesInText, BenchesInText};
-ghost use Rattle.text.specs.Reports.{Tells, Within, CertifiesInBytes};
+ghost use Rattle.text.specs.Prints.{ShowsRow, AnswerStands, PromisesInText};
+ghost use Rattle.text.specs.Reports.{Tells, Within, PromisesInBytes};
 use crate::lines::put_facts;
 use crate::lines::put_loop;
 use crate::lines::put_refusal;
@@ -52,9 +54,10 @@ fn put_certified(
     scratch: &[u16],
 ) -> usize
     requires { ⌜ 131072 ≤ length (now out) ⌝ }
-    requires { ⌜ CertifiedStands answer n (length (now certificate)) (length (now scratch)) ⌝ }
-    ensures { λ r. ⌜ Put (certifiedText answer n (now (certificate .entry)) (now (scratch .entry)))
-        (now (out .entry)) (length (now (out .entry))) (now (out .exit)) r ⌝ }
+    requires { ⌜ AnswerStands certified.each (certified.answerOf answer) n (length (now certificate))
+        (length (now scratch)) ⌝ }
+    ensures { λ r. ⌜ Put (answerText (certifiedText (now (certificate .entry)) n) (certified.answerOf answer)
+        (now (scratch .entry))) (now (out .entry)) (length (now (out .entry))) (now (out .exit)) r ⌝ }
 {
     match answer {
         Certified::Accepted(rounds) => {
@@ -68,7 +71,7 @@ fn put_certified(
 // What is told of the certifying call's answer where the certificate has so many bytes.
 fn put_report(line: &mut [u8], answer: Certified, bytes: usize) -> Report
     requires { ⌜ 53 ≤ length (now line) ⌝ }
-    ensures { λ r. ⌜ Tells answer bytes (now (line .entry)) (now (line .exit)) r ⌝ }
+    ensures { λ r. ⌜ Tells (certified.answerOf answer) bytes (now (line .entry)) (now (line .exit)) r ⌝ }
     ensures { λ r. ⌜ Within r bytes (length (now (line .entry))) ⌝ }
 {
     match answer {
@@ -82,9 +85,9 @@ fn put_report(line: &mut [u8], answer: Certified, bytes: usize) -> Report
 // The bench call's answer, on a table of n records.
 fn put_benched(out: &mut [u8], answer: Benched, n: usize, values: &[u32], scratch: &[u16]) -> usize
     requires { ⌜ 131072 ≤ length (now out) ⌝ }
-    requires { ⌜ BenchedStands answer n (length (now values)) (length (now scratch)) ⌝ }
-    ensures { λ r. ⌜ Put (benchedText answer n (now (values .entry)) (now (scratch .entry)))
-        (now (out .entry)) (length (now (out .entry))) (now (out .exit)) r ⌝ }
+    requires { ⌜ AnswerStands benched.each (benched.answerOf answer) n (length (now values)) (length (now scratch)) ⌝ }
+    ensures { λ r. ⌜ Put (answerText (benchedText (now (values .entry)) n) (benched.answerOf answer)
+        (now (scratch .entry))) (now (out .entry)) (length (now (out .entry))) (now (out .exit)) r ⌝ }
 {
     match answer {
         Benched::Accepted => put_values(out, out.len(), values, n),
@@ -99,9 +102,9 @@ pub fn certify_text(
     scratch: &mut [u16],
     out: &mut [u8; 131072],
 ) -> usize
-    ensures { λ r. ⌜ CertifiesInText
-        (buffers (now (table .entry)) (now (certificate .entry)) (now (scratch .entry))
-        (now (certificate .exit)) (now (scratch .exit)))
+    ensures { λ r. ⌜ PromisesInText certified.certifying certifiedText
+        (lent (now (table .entry)) (now (certificate .entry)) (now (scratch .entry)))
+        (left (now (certificate .exit)) (now (scratch .exit)))
         (now (out .entry)) (now (out .exit)) r ⌝ }
     ensures { λ r. ⌜ (r ≤ 131072) × (131072 ≤ length (now (out .exit))) ⌝ }
 {
@@ -117,9 +120,9 @@ pub fn certify_bytes(
     scratch: &mut [u16],
     line: &mut [u8; 64],
 ) -> Report
-    ensures { λ r. ⌜ CertifiesInBytes
-        (buffers (now (table .entry)) (now (certificate .entry)) (now (scratch .entry))
-        (now (certificate .exit)) (now (scratch .exit)))
+    ensures { λ r. ⌜ PromisesInBytes certified.certifying certified.each
+        (lent (now (table .entry)) (now (certificate .entry)) (now (scratch .entry)))
+        (left (now (certificate .exit)) (now (scratch .exit)))
         (now (line .entry)) (now (line .exit)) r ⌝ }
     ensures { λ r. ⌜ Within r (length (now (certificate .exit))) 64 × (64 ≤ length (now (line .exit))) ⌝ }
 {
@@ -136,10 +139,10 @@ pub fn bench_text(
     scratch: &mut [u16],
     out: &mut [u8; 131072],
 ) -> usize
-    ensures { λ r. ⌜ BenchesInText
-        (buffers (now (table .entry)) (now (values .entry)) (now (scratch .entry))
-        (now (values .exit)) (now (scratch .exit)))
-        (now (stimuli .entry)) (now (out .entry)) (now (out .exit)) r ⌝ }
+    ensures { λ r. ⌜ PromisesInText (benched.benching (now (stimuli .entry))) benchedText
+        (lent (now (table .entry)) (now (values .entry)) (now (scratch .entry)))
+        (left (now (values .exit)) (now (scratch .exit)))
+        (now (out .entry)) (now (out .exit)) r ⌝ }
     ensures { λ r. ⌜ (r ≤ 131072) × (131072 ≤ length (now (out .exit))) ⌝ }
 {
     let answer = bench(table, stimuli, values, scratch);

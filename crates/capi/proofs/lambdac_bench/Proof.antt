@@ -1,5 +1,6 @@
 -- The bench call's promise, of the answer that is packed.
 -- Assumes nothing.
+use Rattle.machine.specs.Promise.{answerOf}
 use Rattle.capi.proofs.Packed.{benched-low}
 use borrow.Author.Needs.{needs}
 use Rattle.capi.proofs.lambdac_bench.Statement.{statement}
@@ -11,7 +12,7 @@ bench-requires c κs = search needs
 pack-benched-requires : tie.Need-pack-benched-requires
 pack-benched-requires c κs =
     let call = c .before .before .before .before .bench in
-    benched-low _ _ (call .result) (call .ensures) (call .kept .1 .1 .1 .0)
+    benched-low _ _ _ (answerOf (call .result)) (call .ensures)
 
 same-length : tie.Need-same-length
 same-length c = search needs
@@ -23,10 +24,10 @@ returns : tie.Need-returns
 returns c =
     let call = c .before .before .before .before .before .bench in
     record {
-      answer = call .result;
-      low = benched-low _ _ (call .result) (call .ensures) (call .kept .1 .1 .1 .0);
+      answer = answerOf (call .result);
+      low = benched-low _ _ _ (answerOf (call .result)) (call .ensures);
       is = c .pack-benched .ensures;
-      benches = call .ensures;
+      promises = call .ensures;
     }
 
 pub lambdac-bench-spec : {M : Type 1} → statement M

@@ -1,6 +1,7 @@
 -- The certifying call's promise, of the answer that is packed.
 -- Assumes nothing.
 use borrow.Author.Needs.{needs}
+use Rattle.certificate.specs.Promise.{answerOf}
 use Rattle.capi.proofs.Packed.{certified-low}
 use Rattle.capi.proofs.lambdac_certify.Statement.{statement}
 use Rattle.capi.proofs.lambdac_certify.Tie as tie
@@ -11,7 +12,7 @@ certify-requires c κs = search needs
 pack-certified-requires : tie.Need-pack-certified-requires
 pack-certified-requires c κs =
     let call = c .before .before .before .before .certify in
-    certified-low _ (call .result) (call .ensures) (call .kept .1 .1 .0)
+    certified-low _ _ (answerOf (call .result)) (call .ensures)
 
 same-length : tie.Need-same-length
 same-length c = search needs
@@ -23,10 +24,10 @@ returns : tie.Need-returns
 returns c =
     let call = c .before .before .before .before .before .certify in
     record {
-      answer = call .result;
-      low = certified-low _ (call .result) (call .ensures) (call .kept .1 .1 .0);
+      answer = answerOf (call .result);
+      low = certified-low _ _ (answerOf (call .result)) (call .ensures);
       is = c .pack-certified .ensures;
-      certifies = call .ensures;
+      promises = call .ensures;
     }
 
 pub lambdac-certify-spec : {M : Type 1} → statement M

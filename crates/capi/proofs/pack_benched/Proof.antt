@@ -1,7 +1,9 @@
 -- 0, or the number of the refusal.
 -- Assumes nothing.
 use mathlib.Core.Path.{sym, ap, _∙_}
-use Rattle.capi.specs.Packed.{packedBenched}
+use Rattle.machine.specs.declared.Benched.{Benched}
+use Rattle.machine.specs.Promise.{answerOf}
+use Rattle.capi.specs.Packed.{packed}
 use borrow.Author.Needs.{needs}
 use Rattle.capi.proofs.pack_benched.Statement.{statement}
 use Rattle.capi.proofs.pack_benched.Tie as tie
@@ -19,7 +21,8 @@ returns : tie.Need-returns
 returns c = search needs
 
 returns-2 : tie.Need-returns-2
-returns-2 c = c .pack-refusal .ensures ∙ ap packedBenched (sym (c .before .before .answer .given .1))
+returns-2 c =
+    c .pack-refusal .ensures ∙ ap (λ (a : Benched). packed (answerOf a)) (sym (c .before .before .answer .given .1))
 
 pub pack-benched-spec : {M : Type 1} → statement M
 pack-benched-spec =

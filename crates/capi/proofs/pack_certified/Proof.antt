@@ -1,7 +1,9 @@
 -- The rounds, or the number of the refusal.
 -- Assumes nothing.
 use mathlib.Core.Path.{sym, ap, _∙_}
-use Rattle.capi.specs.Packed.{packedCertified}
+use Rattle.certificate.specs.declared.Certified.{Certified}
+use Rattle.certificate.specs.Promise.{answerOf}
+use Rattle.capi.specs.Packed.{packed}
 use borrow.Author.Needs.{needs}
 use Rattle.capi.proofs.pack_certified.Statement.{statement}
 use Rattle.capi.proofs.pack_certified.Tie as tie
@@ -22,7 +24,8 @@ returns : tie.Need-returns
 returns c = search needs
 
 returns-2 : tie.Need-returns-2
-returns-2 c = c .pack-refusal .ensures ∙ ap packedCertified (sym (c .before .before .answer2 .given .1))
+returns-2 c =
+    c .pack-refusal .ensures ∙ ap (λ (a : Certified). packed (answerOf a)) (sym (c .before .before .answer2 .given .1))
 
 pub pack-certified-spec : {M : Type 1} → statement M
 pack-certified-spec =

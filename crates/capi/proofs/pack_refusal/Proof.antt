@@ -1,4 +1,4 @@
--- The ground is at most 17 and the place low, so their number fits.
+-- The ground has at most two digits and the place is low, so their number fits.
 -- Assumes nothing.
 use native.Mathlib.Omega.{arith}
 use Rattle.circuit.proofs.Places.{ground-range}

@@ -1,8 +1,8 @@
 -- A ground from 1 to 10 is refused with every buffer as it was; else the table is put in order.
 -- Assumes nothing.
-use mathlib.Core.Path.{refl, sym, _∙_}
-use mathlib.Core.Logic.{inl}
-use Rattle.circuit.proofs.Places.{refused-finds}
+use mathlib.Core.Path.{sym, _∙_}
+use Rattle.call.proofs.Parts.{turned-down}
+use Rattle.machine.specs.Promise.{benching}
 use borrow.Author.Needs.{needs}
 use Rattle.machine.proofs.bench.Statement.{statement}
 use Rattle.machine.proofs.bench.Tie as tie
@@ -22,11 +22,7 @@ bench-checked-requires c κs =
 
 returns : tie.Need-returns
 returns c =
-    inl (record {
-      first = refused-finds (sym (c .before .before .before .check-call .ensures) ∙ c .before .check .given .1);
-      output = refl;
-      scratch = refl;
-    })
+    turned-down (benching _) _ (sym (c .before .before .before .check-call .ensures) ∙ c .before .check .given .1)
 
 same-length : tie.Need-same-length
 same-length c = search needs

@@ -1,15 +1,14 @@
 -- An order lets the list be read and run, a loop is shown.
 -- Assumes nothing.
-use mathlib.Core.Path.{refl}
-use mathlib.Core.Logic.{inl, inr}
 use Prim.Native.Nat.{_*_, _/_}
 use native.Mathlib.Omega.{arith}
 use lib.ListN.{length}
 use Rattle.circuit.specs.Circuit.{circuit}
 use Rattle.schedule.specs.Schedule.{IsOrder, IsLoop}
-use Rattle.schedule.specs.Call.{buffers}
-use Rattle.schedule.proofs.Standing.{loop-shown}
-use Rattle.machine.proofs.Promise.{fits, ordered-ready, answered}
+use Rattle.call.specs.Call.{lent}
+use Rattle.call.proofs.Parts.{table-checked, scratch-lent, loop-shown}
+use Rattle.machine.specs.Promise.{room, benching}
+use Rattle.machine.proofs.Promise.{ready, answered}
 use borrow.Author.Needs.{needs}
 use Rattle.machine.proofs.bench_checked.Statement.{statement}
 use Rattle.machine.proofs.bench_checked.Tie as tie
@@ -17,11 +16,20 @@ use Rattle.machine.proofs.bench_checked.Tie as tie
 mul-schedule : tie.Need-mul-schedule
 mul-schedule c = search needs
 
+-- the order that the schedule leaves
+order : (c : tie.After-outcome2) → let call = c .before .before .before .before in
+    let x = call .before .before .before .before .before .before .args in
+    let n = length (x .t .now) / 16 in
+    IsOrder (circuit (x .t .now) n) (n * room) (x .scratch .now) (call .schedule .last .1 .1 .1 .0)
+    (c .outcome2 .given .0 .0) (c .outcome2 .given .0 .1 .0)
+order c = rw (c .outcome2 .given .1) at (c .before .before .before .before .schedule .ensures)
+
 schedule-requires : tie.Need-schedule-requires
 schedule-requires c κs =
-    let x = c .before .before .before .before .before .args in
-    let f = fits (x .t .now) (x .values .now) (x .scratch .now) (c .before .before .before .before .before .pre) in
-    ((f .small, f .table), (f .valid, (omega arith, f .worked)))
+    let a = c .before .before .before .before .before in
+    let call = benching (a .args .s .now) in
+    let l = lent (a .args .t .now) (a .args .values .now) (a .args .scratch .now) in
+    (table-checked call l (a .pre), (omega arith, scratch-lent call l (a .pre)))
 
 enum-known-outcome : tie.Need-enum-known-outcome
 enum-known-outcome c = search needs
@@ -31,36 +39,23 @@ enum-known-outcome-2 c = search needs
 
 bench-ordered-requires : tie.Need-bench-ordered-requires
 bench-ordered-requires c κs =
-    let ordered = c .before .before .before .before .before .before .before in
-    let x = ordered .before .before .before .before .before .before .args in
-    let ok = ordered .before .before .before .before .before .before .pre in
-    let call = ordered .schedule in
-    let told = c .before .before .before .outcome2 .given in
-    let n = length (x .t .now) / 16 in
-    let o : IsOrder (circuit (x .t .now) n) (n * 4) (x .scratch .now) (call .last .1 .1 .1 .0) (told .0 .0)
-    (told .0 .1 .0) = rw (told .1) at (call .ensures) in (
-      ordered-ready (x .t .now) (x .values .now) (x .scratch .now) ok o,
-      omega (arith, fits (x .t .now) (x .values .now) (x .scratch .now) ok .written),
-    )
+    let told = c .before .before .before in
+    let a = told .before .before .before .before .before .before .before .before .before .before in
+    ready (a .args .s .now) (a .args .t .now) (a .args .values .now) (a .args .scratch .now) (a .pre) (order told)
 
 same-length : tie.Need-same-length
 same-length c = search needs
 
 returns : tie.Need-returns
 returns c =
-    let x = c .before .before .before .before .before .before .before .before .before .before .before .args in
-    let call = c .before .before .before .before .before .schedule in
-    let told = c .before .outcome .given in
+    let told = c .before in
+    let a = told .before .before .before .before .before .before .before .before .before .before in
+    let x = a .args in
     let n = length (x .t .now) / 16 in
-    let l : IsLoop (circuit (x .t .now) n) (n * 4) (x .scratch .now) (call .last .1 .1 .1 .0) (told .0 .0) =
-    rw (told .1) at (call .ensures) in
-    inr (inl (
-      refl,
-      loop-shown 1 4
-          (buffers (x .t .now) (x .values .now) (x .scratch .now) (x .values .now) (call .last .1 .1 .1 .0))
-          (told .0 .0)
-          (c .before .before .before .before .before .before .before .before .before .before .before .pre) l refl,
-    ))
+    let l : IsLoop (circuit (x .t .now) n) (n * room) (x .scratch .now)
+    (told .before .before .before .before .schedule .last .1 .1 .1 .0) (told .outcome .given .0 .0) =
+    rw (told .outcome .given .1) at (told .before .before .before .before .schedule .ensures) in
+    loop-shown (benching (x .s .now)) (lent (x .t .now) (x .values .now) (x .scratch .now)) (a .pre) l
 
 same-length-2 : tie.Need-same-length-2
 same-length-2 c = search needs
@@ -70,17 +65,11 @@ same-length-3 c = search needs
 
 returns-2 : tie.Need-returns-2
 returns-2 c =
-    let ordered = c .before .before .before .before .before .before .before .before .before .before .before .before in
-    let x = ordered .before .before .before .before .before .before .args in
-    let ok = ordered .before .before .before .before .before .before .pre in
-    let call = ordered .schedule in
-    let told = c .before .before .before .before .before .before .before .before .outcome2 .given in
-    let n = length (x .t .now) / 16 in
-    let o : IsOrder (circuit (x .t .now) n) (n * 4) (x .scratch .now) (call .last .1 .1 .1 .0) (told .0 .0)
-    (told .0 .1 .0) = rw (told .1) at (call .ensures) in
+    let told = c .before .before .before .before .before .before .before .before in
+    let a = told .before .before .before .before .before .before .before .before .before .before in
     let d = c .before .before .before .before .bench-ordered in
-    answered (x .t .now) (x .values .now) (x .scratch .now) ok o (x .s .now) (d .last .1 .1 .1 .1 .1 .1 .0)
-    (d .last .1 .1 .1 .0) (d .result) (d .ensures .1) (d .ensures .0)
+    answered (a .args .s .now) (a .args .t .now) (a .args .values .now) (a .args .scratch .now) (a .pre) (order told)
+    _ _ (d .result) (d .ensures .1) (d .ensures .0)
 
 pub bench-checked-spec : {M : Type 1} → statement M
 bench-checked-spec =

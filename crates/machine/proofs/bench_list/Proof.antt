@@ -1,10 +1,10 @@
 -- A list that is refused changes nothing; else the machine runs it from power-on.
 -- Assumes nothing.
 use mathlib.Core.Path.{refl, sym, _∙_}
-use native.Mathlib.Omega.{arith}
-use Rattle.circuit.specs.Stimuli.{stimuli}
-use Rattle.schedule.proofs.Filled.{outside-none}
-use Rattle.machine.proofs.Running.{machine-holds}
+use Rattle.circuit.specs.Machine.{machine}
+use Rattle.buffer.proofs.Filled.{outside-none}
+use Rattle.buffer.proofs.Store.{holds-moves}
+use Rattle.engine.proofs.Standing.{ready-long}
 use borrow.Author.Needs.{needs}
 use Rattle.machine.proofs.bench_list.Statement.{statement}
 use Rattle.machine.proofs.bench_list.Tie as tie
@@ -24,13 +24,10 @@ power-on-requires c κs = search needs
 run-requires : tie.Need-run-requires
 run-requires c κs =
     let told = c .before .before .before .before .before .before .before in
-    let read = told .before .before in
-    let p = read .before .before .before .before .before .pre in (
-      p .0,
-      (
-        omega (arith, p .1, c .before .before .before .before .power-on .ensures .kept .long),
-        sym (read .check-stimuli .ensures) ∙ told .enum-told .given .1,
-      ),
+    let read = told .before .before in (
+      ready-long (read .before .before .before .before .before .pre)
+          (c .before .before .before .before .power-on .ensures .kept .long),
+      sym (read .check-stimuli .ensures) ∙ told .enum-told .given .1,
     )
 
 returns : tie.Need-returns
@@ -46,18 +43,16 @@ same-length-2 : tie.Need-same-length-2
 same-length-2 c = search needs
 
 returns-2 : tie.Need-returns-2
+unfolding machine
 returns-2 c =
     let ran = c .before .before .before .before in
     let on = ran .before .before .before .before .before in
     let told = on .before .before .before in
-    let read = told .before .before in
-    let x = read .before .before .before .before .before .args in
-    let p = read .before .before .before .before .before .pre in (
+    let read = told .before .before in (
       ran .run .ensures .0,
       (
         sym (read .check-stimuli .ensures) ∙ told .enum-told .given .1,
-        machine-holds (x .t .now) (x .n) (p .0 .valid) (p .0 .order) (stimuli (x .s .now)) (on .power-on .ensures)
-            (ran .run .ensures .1),
+        holds-moves (on .power-on .ensures) (ran .run .ensures .1),
       ),
     )
 

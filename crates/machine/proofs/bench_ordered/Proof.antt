@@ -2,7 +2,8 @@
 -- Assumes nothing.
 use Prim.Native.Nat.{_+_, _*_}
 use native.Mathlib.Omega.{arith}
-use Rattle.schedule.proofs.Filled.{part-cleared}
+use Rattle.buffer.proofs.Filled.{part-cleared}
+use Rattle.machine.specs.Promise.{room}
 use borrow.Author.Needs.{needs}
 use Rattle.machine.proofs.bench_ordered.Statement.{statement}
 use Rattle.machine.proofs.bench_ordered.Tie as tie
@@ -27,8 +28,8 @@ returns c =
     let answer = c .before .before .before .before .before .before .before .before in
     let x = answer .before .before .before .before .before .before .before .args in
     let p = answer .before .before .before .before .before .before .before .pre in (
-      part-cleared (x .n + x .n) (x .n * 4) (x .n * 4) (x .scratch .now) _ _ (answer .bench-list .ensures .0)
-          (omega arith) (p .0 .room) (c .before .before .clear .ensures),
+      part-cleared (x .n + x .n) (x .n * room) (x .n * room) (x .scratch .now) _ _ (answer .bench-list .ensures .0)
+          (omega arith) (p .scratch-long) (c .before .before .clear .ensures),
       answer .bench-list .ensures .1,
     )
 

@@ -8,8 +8,8 @@ use Rattle.circuit.proofs.Tables.{circuit-length, circuit-record}
 use Rattle.circuit.specs.Circuit.{circuit, recordOf}
 use Rattle.circuit.specs.Record.{isRegister}
 use Rattle.schedule.specs.Schedule.{registerList}
-use Rattle.schedule.specs.Scratch.{Filled}
-use Rattle.schedule.proofs.Filled.{filled-none, filled-more}
+use Rattle.buffer.specs.Kept.{Filled}
+use Rattle.buffer.proofs.Filled.{filled-none, filled-more}
 use Rattle.schedule.proofs.Registers.{Written, written-none, written-register, written-other, written-all}
 use Rattle.schedule.proofs.Registers.{written-below, written-here}
 use Rattle.schedule.proofs.add_registers.Statement.{statement}

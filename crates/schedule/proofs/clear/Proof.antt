@@ -3,8 +3,8 @@
 use mathlib.Core.Path.{_≡_, refl}
 use Prim.Native.Nat.{_+_, _-_, _≤_}
 use native.Mathlib.Omega.{arith}
-use Rattle.schedule.specs.Scratch.{Filled}
-use Rattle.schedule.proofs.Filled.{filled-none, filled-more}
+use Rattle.buffer.specs.Kept.{Filled}
+use Rattle.buffer.proofs.Filled.{filled-none, filled-more}
 use Rattle.schedule.proofs.clear.Statement.{statement}
 use Rattle.schedule.proofs.clear.Tie as tie
 

@@ -3,15 +3,12 @@
 use borrow.Author.Needs.{needs}
 use Prim.Native.Nat.{_+_}
 use native.Mathlib.Omega.{arith}
-use Rattle.schedule.specs.Scratch.{Kept}
-use Rattle.schedule.specs.Walk.{Table, AllFinished, StackCloses}
-use Rattle.schedule.proofs.Filled.{kept-trans, filled-kept}
+use Rattle.buffer.specs.Kept.{Kept}
+use Rattle.schedule.specs.Walk.{AllFinished, StackCloses}
+use Rattle.buffer.proofs.Filled.{kept-trans, filled-kept}
 use Rattle.schedule.proofs.Outcomes.{order-stands, loop-stands}
 use Rattle.schedule.proofs.schedule.Statement.{statement}
 use Rattle.schedule.proofs.schedule.Tie as tie
-
-table : (c : tie.Start) → Table (c .args .t .now) (c .args .n)
-table c = record { small = c .pre .0 .0; long = c .pre .0 .1; checked = c .pre .1 .0 }
 
 finished : (c : tie.After-visited) → let w = c .before .before .before .before in
     let a = w .before .before .before .before .before .before .before .before in
@@ -41,7 +38,7 @@ visit-all-requires : tie.Need-visit-all-requires
 visit-all-requires c κs =
     let k = c .before .before .before in
     let a = k .before .before .before .before in (
-      table a,
+      a .pre .0,
       (omega (arith, k .clear .ensures .long), λ v l. k .clear .ensures .here v (omega arith)),
     )
 
@@ -53,7 +50,7 @@ add-registers-requires c κs =
     let f = finished (c .before .before) in
     let w = c .before .before .before .before .before .before in
     let a = w .before .before .before .before .before .before .before .before in
-    (table a, (omega (arith, kept w .long), f .room))
+    (a .pre .0, (omega (arith, kept w .long), f .room))
 
 add-clear-2 : tie.Need-add-clear-2
 add-clear-2 c =
@@ -61,7 +58,7 @@ add-clear-2 c =
     let f = finished (r .before .before .before) in
     let w = r .before .before .before .before .before .before .before in
     let a = w .before .before .before .before .before .before .before .before in
-    omega (arith, f .room, r .add-registers .ensures .0, a .pre)
+    omega (arith, f .room, r .add-registers .ensures .0, a .pre .0 .small)
 
 clear-requires-2 : tie.Need-clear-requires-2
 clear-requires-2 c κs =
@@ -69,7 +66,7 @@ clear-requires-2 c κs =
     let f = finished (r .before .before .before) in
     let w = r .before .before .before .before .before .before .before in
     let a = w .before .before .before .before .before .before .before .before in
-    omega (arith, f .room, r .add-registers .ensures .0, r .add-registers .ensures .1 .long, kept w .long, a .pre)
+    omega (arith, f .room, r .add-registers .ensures .0, r .add-registers .ensures .1 .long, kept w .long, a .pre .1)
 
 enum-known-visited-2 : tie.Need-enum-known-visited-2
 enum-known-visited-2 c = search needs
@@ -79,7 +76,7 @@ show-loop-requires c κs =
     let f = closes (c .before .before) in
     let w = c .before .before .before .before .before .before in
     let a = w .before .before .before .before .before .before .before .before in (
-      (omega (arith, kept w .long), omega (arith, a .pre), omega (arith, f .low, f .high)),
+      (omega (arith, kept w .long), a .pre .0 .small, omega (arith, f .low, f .high)),
       (f .place, f .low, f .high, f .here),
     )
 
@@ -96,7 +93,7 @@ returns c =
     let v = r .before .before .before in
     let w = v .before .before .before .before in
     let a = w .before .before .before .before .before .before .before .before in
-    order-stands (a .args .part) (a .pre .1 .1 .0) (a .pre .1 .1 .1) (kept w) (finished v)
+    order-stands (a .args .part) (a .pre .1 .0) (a .pre .1 .1) (kept w) (finished v)
     (r .add-registers .ensures .0) (r .add-registers .ensures .1) (k .clear2 .ensures)
 
 same-length-2 : tie.Need-same-length-2
@@ -109,7 +106,7 @@ returns-2 c =
     let v = r .before .before .before in
     let w = v .before .before .before .before in
     let a = w .before .before .before .before .before .before .before .before in
-    loop-stands (a .args .part) (a .pre .1 .1 .0) (a .pre .1 .1 .1) (kept w) (closes v)
+    loop-stands (a .args .part) (a .pre .1 .0) (a .pre .1 .1) (kept w) (closes v)
     (r .show-loop .ensures) (k .clear3 .ensures)
 
 pub schedule-spec : {M : Type 1} → statement M

@@ -32,9 +32,14 @@ slice-aggregate-schedule c = search needs
 
 schedule-requires : tie.Need-schedule-requires
 schedule-requires c κs =
-    let k = c .before .before .before in (
-      k .before .before .pre,
-      (sym (k .check-records .ensures) ∙ c .before .enum-told .given .1, (omega arith, omega arith)),
+    let k = c .before .before .before in
+    let p = k .before .before .pre in (
+      record {
+        small = p .0;
+        long = p .1;
+        valid = sym (k .check-records .ensures) ∙ c .before .enum-told .given .1;
+      },
+      (omega arith, omega arith),
     )
 
 slice-aggregate-print-outcome : tie.Need-slice-aggregate-print-outcome

@@ -1,6 +1,7 @@
 -- What the answer shows stands in the buffers, and its text fills the rest of `out`.
 -- Assumes nothing.
 use native.Mathlib.Omega.{arith}
+use Rattle.machine.specs.Promise.{answerOf}
 use Rattle.text.proofs.Pieces.{put-whole}
 use Rattle.text.proofs.Answers.{benched-stands}
 use borrow.Author.Needs.{needs}
@@ -13,12 +14,7 @@ bench-requires c κs = search needs
 put-benched-requires : tie.Need-put-benched-requires
 put-benched-requires c κs =
     let call = c .before .before .before .before .before .before .before .bench in
-    let x = c .before .before .before .before .before .before .before .before .before .before .before .before .before
-    .before .args in (
-      omega arith,
-      benched-stands _ (call .kept .1 .1 .0) (call .kept .1 .1 .1 .0) (x .stimuli .now) (call .result)
-          (call .ensures),
-    )
+    (omega arith, benched-stands _ _ _ _ _ _ (call .kept .1 .1 .0) (answerOf (call .result)) (call .ensures))
 
 same-length : tie.Need-same-length
 same-length c = search needs
@@ -31,8 +27,8 @@ returns c =
     let call = c .before .before .before .before .before .before .before .before .bench in
     let put = c .put-benched .ensures in (
       record {
-        answer = call .result;
-        benches = call .ensures;
+        answer = answerOf (call .result);
+        promises = call .ensures;
         text = put-whole put;
       },
       (omega (arith, put .start), omega (arith, put .long)),

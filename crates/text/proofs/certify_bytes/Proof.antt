@@ -1,6 +1,7 @@
 -- What is told stands in the certificate or in the line.
 -- Assumes nothing.
 use native.Mathlib.Omega.{arith}
+use Rattle.certificate.specs.Promise.{each, answerOf}
 use Rattle.text.proofs.Answers.{certified-stands, told-within}
 use borrow.Author.Needs.{needs}
 use Rattle.text.proofs.certify_bytes.Statement.{statement}
@@ -25,14 +26,14 @@ returns : tie.Need-returns
 returns c =
     let call = c .before .before .before .before .before .before .certify in
     let put = c .put-report in
-    let stands = certified-stands _ (call .kept .1 .0) (call .kept .1 .1 .0) (call .result) (call .ensures) in (
+    let stands = certified-stands _ _ _ _ _ (call .kept .1 .0) (answerOf (call .result)) (call .ensures) in (
       record {
-        answer = call .result;
-        certifies = call .ensures;
+        answer = answerOf (call .result);
+        promises = call .ensures;
         tells = put .ensures .0;
       },
       (
-        told-within (call .result) (put .result) _ _ _ _ 64 _ _ (omega arith) stands (put .ensures .0)
+        told-within each (answerOf (call .result)) (put .result) _ _ _ _ 64 _ _ (omega arith) stands (put .ensures .0)
             (put .ensures .1),
         omega (arith, put .kept),
       ),

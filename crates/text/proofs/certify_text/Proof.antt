@@ -1,6 +1,7 @@
 -- What the answer shows stands in the buffers, and its text fills the rest of `out`.
 -- Assumes nothing.
 use native.Mathlib.Omega.{arith}
+use Rattle.certificate.specs.Promise.{answerOf}
 use Rattle.text.proofs.Pieces.{put-whole}
 use Rattle.text.proofs.Answers.{certified-stands}
 use borrow.Author.Needs.{needs}
@@ -13,7 +14,7 @@ certify-requires c κs = search needs
 put-certified-requires : tie.Need-put-certified-requires
 put-certified-requires c κs =
     let call = c .before .before .before .before .before .before .before .certify in
-    (omega arith, certified-stands _ (call .kept .1 .0) (call .kept .1 .1 .0) (call .result) (call .ensures))
+    (omega arith, certified-stands _ _ _ _ _ (call .kept .1 .0) (answerOf (call .result)) (call .ensures))
 
 same-length : tie.Need-same-length
 same-length c = search needs
@@ -26,8 +27,8 @@ returns c =
     let call = c .before .before .before .before .before .before .before .before .certify in
     let put = c .put-certified .ensures in (
       record {
-        answer = call .result;
-        certifies = call .ensures;
+        answer = answerOf (call .result);
+        promises = call .ensures;
         text = put-whole put;
       },
       (omega (arith, put .start), omega (arith, put .long)),

@@ -11,7 +11,7 @@ enum-told c = search needs
 put-values-requires : tie.Need-put-values-requires
 put-values-requires c κs =
     let p = rw (c .before .enum-told .given .1) at (c .before .before .before .before .before .before .pre .1) in
-    (p .0, p .1, omega (arith, p .0), omega arith)
+    (p .0, omega (arith, p .1), omega (arith, p .0), omega arith)
 
 enum-known-answer : tie.Need-enum-known-answer
 enum-known-answer c = search needs

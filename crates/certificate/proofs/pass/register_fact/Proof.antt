@@ -5,9 +5,7 @@ use native.Mathlib.Omega.{arith}
 use Rattle.circuit.specs.Circuit.{circuit}
 use Rattle.circuit.proofs.Operands.{RegisterHere, register-here}
 use Rattle.fact.specs.Fact.{factAt}
-use Rattle.certificate.specs.Cells.{storeOf}
-use Rattle.certificate.proofs.Cells.{store-load}
-use Rattle.certificate.proofs.Rules.{register-rule}
+use Rattle.fact.proofs.Rules.{register-rule}
 use borrow.Author.Needs.{needs}
 use Rattle.certificate.proofs.pass.register_fact.Statement.{statement}
 use Rattle.certificate.proofs.pass.register_fact.Tie as tie
@@ -17,7 +15,7 @@ here : (c : tie.After-a-at) → let x = c .before .before .before .before .befor
 here c =
     let x = c .before .before .before .before .before .args in
     let p = c .before .before .before .before .before .pre in
-    register-here (x .t .now) (x .n) (x .v) (p .0 .2) (p .1 .0) (p .1 .1)
+    register-here (x .t .now) (x .n) (x .v) (p .below) (p .store .table .valid) (p .is)
 
 width-at-requires : tie.Need-width-at-requires
 width-at-requires c κs = search needs
@@ -41,11 +39,10 @@ returns c =
     let is = here (c .before .before) in
     let a =
     c .before .load .ensures
-    ∙ ap (factAt (x .cells .now)) (c .before .before .a-at .ensures)
-    ∙ store-load (x .cells .now) (x .n) _ (is .a-below) in
+    ∙ ap (factAt (x .cells .now)) (c .before .before .a-at .ensures) in
     c .register-rule .ensures
     ∙ rw (c .before .before .before .before .width-at .ensures, c .before .before .before .value-at .ensures, a)
-    (register-rule (circuit (x .t .now) (x .n)) (x .v) (storeOf (x .cells .now) (x .n)) _ _ _ (is .is))
+    (register-rule (circuit (x .t .now) (x .n)) (x .v) (factAt (x .cells .now)) _ _ _ (is .is))
 
 pub register-fact-spec : {M : Type 1} → statement M
 register-fact-spec =

@@ -7,9 +7,7 @@ use Rattle.circuit.specs.Circuit.{circuit}
 use Rattle.circuit.proofs.Operands.{OperatorHere, MultiplexerHere, constant-here, operator-here, multiplexer-here}
 use Rattle.fact.specs.declared.Fact.the-variants.{Always}
 use Rattle.fact.specs.Fact.{factAt}
-use Rattle.certificate.specs.Cells.{storeOf}
-use Rattle.certificate.proofs.Cells.{store-load}
-use Rattle.certificate.proofs.Rules.{constant-rule, operator-rule, multiplexer-rule}
+use Rattle.fact.proofs.Rules.{constant-rule, operator-rule, multiplexer-rule}
 use borrow.Author.Needs.{needs}
 use Rattle.certificate.proofs.pass.wire_fact.Statement.{statement}
 use Rattle.certificate.proofs.pass.wire_fact.Tie as tie
@@ -19,7 +17,8 @@ operator : (c : tie.At-match-keys2) → let x = c .before .before .before .befor
 operator c =
     let x = c .before .before .before .before .args in
     let p = c .before .before .before .before .pre in
-    operator-here (x .t .now) (x .n) (x .v) (p .0 .2) (p .1 .0) (sym (c .before .kind-at .ensures) ∙ c .match .keys2)
+    operator-here (x .t .now) (x .n) (x .v) (p .below) (p .store .table .valid)
+    (sym (c .before .kind-at .ensures) ∙ c .match .keys2)
 
 multiplexer : (c : tie.At-match-rest) → let x = c .before .before .before .before .args in
     MultiplexerHere (x .t .now) (x .n) (x .v)
@@ -27,7 +26,7 @@ multiplexer c =
     let x = c .before .before .before .before .args in
     let p = c .before .before .before .before .pre in
     let kind = c .before .kind-at .ensures in
-    multiplexer-here (x .t .now) (x .n) (x .v) (p .0 .2) (p .1 .0) (p .1 .1)
+    multiplexer-here (x .t .now) (x .n) (x .v) (p .below) (p .store .table .valid) (p .is)
     (λ e. c .match .rest .0 .1 (kind ∙ e)) (λ e. c .match .rest .1 (kind ∙ e))
 
 kind-at-requires : tie.Need-kind-at-requires
@@ -101,8 +100,8 @@ returns c =
     let x = c .before .before .before .before .before .args in
     let p = c .before .before .before .before .before .pre in
     ap Always (c .value-at .ensures)
-    ∙ constant-rule (circuit (x .t .now) (x .n)) (x .v) (storeOf (x .cells .now) (x .n)) _ _
-    (constant-here (x .t .now) (x .n) (x .v) (p .0 .2)
+    ∙ constant-rule (circuit (x .t .now) (x .n)) (x .v) (factAt (x .cells .now)) _ _
+    (constant-here (x .t .now) (x .n) (x .v) (p .below)
     (sym (c .before .before .kind-at .ensures) ∙ c .before .match .keys1))
 
 returns-2 : tie.Need-returns-2
@@ -114,15 +113,13 @@ returns-2 c =
     ∙ ap operatorOf (c .before .before .before .before .before .before .before .code-at .ensures) in
     let a =
     c .before .before .before .load .ensures
-    ∙ ap (factAt (x .cells .now)) (c .before .before .before .before .a-at .ensures)
-    ∙ store-load (x .cells .now) (x .n) _ (is .a-below) in
+    ∙ ap (factAt (x .cells .now)) (c .before .before .before .before .a-at .ensures) in
     let b =
     c .before .load2 .ensures
-    ∙ ap (factAt (x .cells .now)) (c .before .before .b-at .ensures)
-    ∙ store-load (x .cells .now) (x .n) _ (is .b-below) in
+    ∙ ap (factAt (x .cells .now)) (c .before .before .b-at .ensures) in
     c .operator-rule .ensures
     ∙ rw (op, c .before .before .before .before .before .width-at .ensures, a, b)
-    (operator-rule (circuit (x .t .now) (x .n)) (x .v) (storeOf (x .cells .now) (x .n)) _ _ _ _ (is .is))
+    (operator-rule (circuit (x .t .now) (x .n)) (x .v) (factAt (x .cells .now)) _ _ _ _ (is .is))
 
 returns-3 : tie.Need-returns-3
 returns-3 c =
@@ -130,19 +127,16 @@ returns-3 c =
     let is = multiplexer (c .before .before .before .before .before .before .before .before) in
     let a =
     c .before .before .before .before .before .load3 .ensures
-    ∙ ap (factAt (x .cells .now)) (c .before .before .before .before .before .before .a-at2 .ensures)
-    ∙ store-load (x .cells .now) (x .n) _ (is .a-below) in
+    ∙ ap (factAt (x .cells .now)) (c .before .before .before .before .before .before .a-at2 .ensures) in
     let b =
     c .before .before .before .load4 .ensures
-    ∙ ap (factAt (x .cells .now)) (c .before .before .before .before .b-at2 .ensures)
-    ∙ store-load (x .cells .now) (x .n) _ (is .b-below) in
+    ∙ ap (factAt (x .cells .now)) (c .before .before .before .before .b-at2 .ensures) in
     let d =
     c .before .load5 .ensures
-    ∙ ap (factAt (x .cells .now)) (c .before .before .c-at .ensures)
-    ∙ store-load (x .cells .now) (x .n) _ (is .c-below) in
+    ∙ ap (factAt (x .cells .now)) (c .before .before .c-at .ensures) in
     c .multiplexer-rule .ensures
     ∙ rw (c .before .before .before .before .before .before .before .width-at2 .ensures, a, b, d)
-    (multiplexer-rule (circuit (x .t .now) (x .n)) (x .v) (storeOf (x .cells .now) (x .n)) _ _ _ _ (is .is))
+    (multiplexer-rule (circuit (x .t .now) (x .n)) (x .v) (factAt (x .cells .now)) _ _ _ _ (is .is))
 
 pub wire-fact-spec : {M : Type 1} → statement M
 wire-fact-spec =

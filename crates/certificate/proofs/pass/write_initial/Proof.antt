@@ -1,28 +1,26 @@
 -- The loop's invariant: the first i facts stand in the bytes. The measure is what is left of the records.
 -- Assumes nothing.
-use mathlib.Core.Path.{_≡_, sym, ap, _∙_, subst}
-use mathlib.Core.List.{List}
-use Prim.Native.Nat.{ℕ, _+_, _-_, _*_, _^_, _≤_, _<_}
-use lib.Seq.{sets}
-use Rattle.circuit.proofs.Tables.{circuit-record}
-use Rattle.fact.specs.declared.Fact.{Fact}
-use Rattle.fact.specs.Fact.{factNumber, factBytes}
+use mathlib.Core.Path.{refl, sym, ap, _∙_}
+use Prim.Native.Nat.{_-_, _≤_}
 use native.Mathlib.Omega.{arith}
 use borrow.Author.Needs.{needs}
 use Rattle.circuit.specs.Circuit.{circuit, recordOf}
+use Rattle.circuit.proofs.Tables.{circuit-record}
 use Rattle.fact.specs.Certificate.{initialFact}
-use Rattle.certificate.proofs.Cells.{Begun, begun-none, begun-length, begun-more, begun-all}
+use Rattle.engine.proofs.Passes.{Begun, none-begun, one-begun, all-begun}
+use Rattle.fact.specs.Cells.{facts}
+use Rattle.fact.proofs.Cells.{facts-laws}
 use Rattle.certificate.proofs.pass.write_initial.Statement.{statement}
 use Rattle.certificate.proofs.pass.write_initial.Tie as tie
 
 abbrev Inv-loop : tie.InvT-loop
-Inv-loop t n cells₀ i₀ cells i = (i ≤ n) × Begun (λ v. initialFact (recordOf (circuit t n) v)) i cells₀ cells
+Inv-loop t n cells₀ i₀ cells i = (i ≤ n) × Begun facts n (λ v. initialFact (recordOf (circuit t n) v)) cells₀ cells i
 
 abbrev μ-loop : tie.MeasureT-loop
 μ-loop t n cells₀ i₀ cells i = n - i
 
 loop-holds : tie.Need-loop-holds Inv-loop μ-loop
-loop-holds c = (search needs, begun-none _ _)
+loop-holds c = (search needs, none-begun _)
 
 record-at-requires : tie.Need-record-at-requires Inv-loop μ-loop
 record-at-requires c κs = omega arith
@@ -31,8 +29,7 @@ initial-fact-requires : tie.Need-initial-fact-requires Inv-loop μ-loop
 initial-fact-requires c κs = search needs
 
 store-requires : tie.Need-store-requires Inv-loop μ-loop
-store-requires c κs =
-    omega (arith, begun-length _ _ _ _ (c .before .before .before .before .loop .inv .1) (omega arith))
+store-requires c κs = omega (arith, c .before .before .before .before .loop .inv .1 .kept .long)
 
 add-i : tie.Need-add-i Inv-loop μ-loop
 add-i c = omega arith
@@ -42,33 +39,22 @@ loop-less c = omega arith
 
 loop-again : tie.Need-loop-again Inv-loop μ-loop
 loop-again c =
-    let x = c .before .before .before .before .before .before .before .before .before .before .args in
-    let i = c .before .before .before .before .before .before .before .loop .i in
-    let cells = c .before .before .before .before .before .before .before .loop .cells in
-    let s : ℕ → Fact = λ v. initialFact (recordOf (circuit (x .t .now) (x .n)) v) in
-    let is : c .before .before .before .initial-fact .result ≡ s i =
-    c .before .before .before .initial-fact .ensures
-    ∙ ap initialFact (c .before .before .before .before .record-at .ensures ∙ sym
-    (circuit-record (x .t .now) (x .n) i (c .before .before .before .before .before .before .loop-test .taken))) in
-    let stored : c .before .before .store .last .0 ≡ sets cells (i * 8) (factBytes (s i)) =
-    c .before .before .store .ensures .0 ∙ ap (λ (f : Fact). sets cells (i * 8) (factBytes f)) is in (
+    let l = c .before .before .before .before .before .before .before in
+    let x = l .before .before .before .args in (
       omega arith,
-      subst (λ (l : List ℕ). Begun s (i + 1) (x .cells .now) l) (sym stored)
-          (begun-more s i (x .cells .now) cells
-          (c .before .before .before .before .before .before .before .loop .inv .1) (omega arith)
-          (subst (λ (f : Fact). factNumber f < 2 ^ 32) is (c .before .before .store .ensures .1))),
+      one-begun facts-laws (l .loop .inv .1) (omega arith) refl
+          (c .before .before .before .initial-fact .ensures
+          ∙ ap initialFact (c .before .before .before .before .record-at .ensures
+          ∙ sym (circuit-record (x .t .now) (x .n) (l .loop .i)
+          (c .before .before .before .before .before .before .loop-test .taken))))
+          (c .before .before .store .ensures),
     )
 
 same-length : tie.Need-same-length Inv-loop μ-loop
-same-length c = begun-length _ _ _ _ (c .before .loop .inv .1) (omega arith)
+same-length c = c .before .loop .inv .1 .kept .long
 
 returns : tie.Need-returns Inv-loop μ-loop
-returns c =
-    let x = c .before .before .before .before .args in
-    let s : ℕ → Fact = λ v. initialFact (recordOf (circuit (x .t .now) (x .n)) v) in
-    let e : c .before .loop .i ≡ x .n = omega arith in
-    begun-all s (x .n) (x .cells .now) (c .before .loop .cells)
-    (subst (λ (k : ℕ). Begun s k (x .cells .now) (c .before .loop .cells)) e (c .before .loop .inv .1))
+returns c = all-begun (c .before .loop .inv .1) (omega arith)
 
 pub write-initial-spec : {M : Type 1} → statement M
 write-initial-spec =

@@ -1,10 +1,9 @@
 -- Eight bytes, one after another.
 -- Assumes nothing.
-use mathlib.Core.Path.{_∙_, subst}
-use Prim.Native.Nat.{ℕ, _*_, _^_, _<_}
+use Prim.Native.Nat.{_*_}
 use native.Mathlib.Omega.{arith}
 use lib.ListN.{length-set}
-use Rattle.fact.proofs.Cells.{eight-sets}
+use Rattle.fact.proofs.Cells.{fact-stored}
 use borrow.Author.Needs.{needs}
 use Rattle.fact.proofs.cell.store.Statement.{statement}
 use Rattle.fact.proofs.cell.store.Tie as tie
@@ -79,11 +78,10 @@ same-length : tie.Need-same-length
 same-length c = simp length-set
 
 returns : tie.Need-returns
-returns c = (
-  eight-sets (c .before .before .before .args .cells .now) (c .before .before .before .args .v * 8) _ _ _ _ _ _ _ _
-      ∙ rw (c .before .byte .ensures, c .number .ensures),
-  subst (λ (n : ℕ). n < 2 ^ 32) (c .number .ensures) (search needs),
-)
+returns c =
+    let a = c .before .before .before in
+    fact-stored (a .args .cells .now) (a .args .v * 8) (a .args .f) (c .before .byte .ensures) (c .number .ensures)
+    (search needs) (a .pre)
 
 pub store-spec : {M : Type 1} → statement M
 store-spec =

@@ -23,7 +23,7 @@ check-value-requires c κs =
     let x = c .before .before .before .before .before .before .args in
     let r = c .before .before .before .record-at in
     width-here (x .t .now) (x .n) (x .v) (c .before .before .before .before .if1 .left) (r .result) (r .ensures)
-    (c .before .before .before .before .before .before .pre .1) _ (c .before .r .given .1)
+    (c .before .before .before .before .before .before .pre .valid) _ (c .before .r .given .1)
 
 enum-told : tie.Need-enum-told
 enum-told c = search needs

@@ -2,7 +2,7 @@
 -- Assumes nothing.
 use native.Mathlib.Omega.{arith}
 use lib.ListN.{length-set}
-use Rattle.machine.proofs.Staging.{stored-kept, stored-number}
+use Rattle.machine.proofs.Staging.{halves-wrote}
 use borrow.Author.Needs.{needs}
 use Rattle.machine.proofs.halves.store.Statement.{statement}
 use Rattle.machine.proofs.halves.store.Tie as tie
@@ -32,9 +32,7 @@ same-length : tie.Need-same-length
 same-length c = search needs
 
 returns : tie.Need-returns
-returns c =
-    let x = c .args in
-    (stored-kept (x .scratch .now) (x .at) (x .x) (c .pre), stored-number (x .scratch .now) (x .at) (x .x) (c .pre))
+returns c = halves-wrote (c .args .scratch .now) (c .args .at) (c .args .x) (c .pre)
 
 pub store-spec : {M : Type 1} → statement M
 store-spec =

@@ -4,7 +4,8 @@ use mathlib.Core.Path.{_∙_}
 use native.Mathlib.Omega.{arith}
 use Rattle.circuit.specs.Circuit.{circuit}
 use Rattle.circuit.proofs.Operands.{RegisterHere, register-here}
-use Rattle.machine.proofs.Evaluation.{register-value}
+use Rattle.circuit.proofs.Evaluation.{register-value}
+use Rattle.machine.specs.State.{state}
 use borrow.Author.Needs.{needs}
 use Rattle.machine.proofs.pass.register_value.Statement.{statement}
 use Rattle.machine.proofs.pass.register_value.Tie as tie
@@ -13,7 +14,7 @@ here : (c : tie.After-a-at) → let x = c .before .before .before .args in Regis
 here c =
     let x = c .before .before .before .args in
     let p = c .before .before .before .pre in
-    register-here (x .t .now) (x .n) (x .v) (p .0 .2) (p .1 .0) (p .1 .1)
+    register-here (x .t .now) (x .n) (x .v) (p .below) (p .store .table .valid) (p .is)
 
 a-at-requires : tie.Need-a-at-requires
 a-at-requires c κs = search needs
@@ -35,7 +36,8 @@ returns c =
     let x = c .before .before .before .before .before .before .args in
     c .remainder .ensures
     ∙ rw (c .before .width-at .ensures, c .before .before .before .a-at .ensures)
-    (register-value (circuit (x .t .now) (x .n)) (x .v) (x .values .now) _ _ _ (here (c .before .before .before) .is))
+    (register-value (circuit (x .t .now) (x .n)) (x .v) (state (x .values .now)) _ _ _
+    (here (c .before .before .before) .is))
 
 pub register-value-spec : {M : Type 1} → statement M
 register-value-spec =

@@ -5,7 +5,8 @@ use native.Mathlib.Omega.{arith}
 use Rattle.circuit.specs.Operator.{operatorCode, operatorOf}
 use Rattle.circuit.specs.Circuit.{circuit}
 use Rattle.circuit.proofs.Operands.{OperatorHere, MultiplexerHere, constant-here, operator-here, multiplexer-here}
-use Rattle.machine.proofs.Evaluation.{constant-value, operator-value, multiplexer-value}
+use Rattle.circuit.proofs.Evaluation.{constant-value, operator-value, multiplexer-value}
+use Rattle.machine.specs.State.{state}
 use borrow.Author.Needs.{needs}
 use Rattle.machine.proofs.pass.wire_value.Statement.{statement}
 use Rattle.machine.proofs.pass.wire_value.Tie as tie
@@ -15,7 +16,8 @@ operator : (c : tie.At-match-keys2) → let x = c .before .before .before .befor
 operator c =
     let x = c .before .before .before .before .args in
     let p = c .before .before .before .before .pre in
-    operator-here (x .t .now) (x .n) (x .v) (p .0 .2) (p .1 .0) (sym (c .before .kind-at .ensures) ∙ c .match .keys2)
+    operator-here (x .t .now) (x .n) (x .v) (p .below) (p .store .table .valid)
+    (sym (c .before .kind-at .ensures) ∙ c .match .keys2)
 
 multiplexer : (c : tie.At-match-rest) → let x = c .before .before .before .before .args in
     MultiplexerHere (x .t .now) (x .n) (x .v)
@@ -23,7 +25,7 @@ multiplexer c =
     let x = c .before .before .before .before .args in
     let p = c .before .before .before .before .pre in
     let kind = c .before .kind-at .ensures in
-    multiplexer-here (x .t .now) (x .n) (x .v) (p .0 .2) (p .1 .0) (p .1 .1)
+    multiplexer-here (x .t .now) (x .n) (x .v) (p .below) (p .store .table .valid) (p .is)
     (λ e. c .match .rest .0 .1 (kind ∙ e)) (λ e. c .match .rest .1 (kind ∙ e))
 
 kind-at-requires : tie.Need-kind-at-requires
@@ -128,8 +130,8 @@ returns c =
     let x = c .before .before .before .before .before .args in
     let p = c .before .before .before .before .before .pre in
     c .value-at .ensures
-    ∙ constant-value (circuit (x .t .now) (x .n)) (x .v) (x .values .now) _ _
-    (constant-here (x .t .now) (x .n) (x .v) (p .0 .2)
+    ∙ constant-value (circuit (x .t .now) (x .n)) (x .v) (state (x .values .now)) _ _
+    (constant-here (x .t .now) (x .n) (x .v) (p .below)
     (sym (c .before .before .kind-at .ensures) ∙ c .before .match .keys1))
 
 returns-2 : tie.Need-returns-2
@@ -148,7 +150,7 @@ returns-2 c =
       c .before .before .before .before .a-at .ensures,
       c .before .before .b-at .ensures,
     )
-    (operator-value (circuit (x .t .now) (x .n)) (x .v) (x .values .now) _ _ _ _ (operator o .is))
+    (operator-value (circuit (x .t .now) (x .n)) (x .v) (state (x .values .now)) _ _ _ _ (operator o .is))
 
 returns-3 : tie.Need-returns-3
 returns-3 c =
@@ -161,7 +163,7 @@ returns-3 c =
       c .before .before .before .before .b-at2 .ensures,
       c .before .before .c-at .ensures,
     )
-    (multiplexer-value (circuit (x .t .now) (x .n)) (x .v) (x .values .now) _ _ _ _ (multiplexer m .is))
+    (multiplexer-value (circuit (x .t .now) (x .n)) (x .v) (state (x .values .now)) _ _ _ _ (multiplexer m .is))
 
 pub wire-value-spec : {M : Type 1} → statement M
 wire-value-spec =

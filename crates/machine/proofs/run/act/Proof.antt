@@ -11,7 +11,7 @@ use Rattle.circuit.specs.Circuit.{circuit}
 use Rattle.circuit.specs.Stimuli.{checkStimulus}
 use Rattle.circuit.proofs.Tables.{circuit-length}
 use Rattle.circuit.proofs.Stimuli.{poke-passed}
-use Rattle.schedule.proofs.Filled.{outside-none}
+use Rattle.buffer.proofs.Filled.{outside-none}
 use Rattle.machine.proofs.Acting.{act-same}
 use borrow.Author.Needs.{needs}
 use Rattle.machine.proofs.run.act.Statement.{statement}
@@ -27,20 +27,13 @@ poke-requires : tie.Need-poke-requires
 poke-requires c κs =
     let start = c .before .before .before .before .before .before .before .before .before in
     let x = start .args in
-    let p = start .pre in
-    let r = p .0 in
     let C = circuit (x .t .now) (x .n) in
     let poked =
     poke-passed C _ _ 0
     (subst (λ (y : Stimulus). checkStimulus C (Read y) 0 ≡ Passed)
-    (c .before .before .before .before .stimulus .given .1) (p .1 .1)) in (
-      (
-        r .table,
-        p .1 .0,
-        omega (arith, r .room, r .fits),
-        omega (arith, poked .below, circuit-length (x .t .now) (x .n), c .wide .ensures .0),
-      ),
-      (r .valid, r .order),
+    (c .before .before .before .before .stimulus .given .1) (start .pre .1)) in (
+      start .pre .0 .wired,
+      omega (arith, poked .below, circuit-length (x .t .now) (x .n), c .wide .ensures .0),
     )
 
 enum-told : tie.Need-enum-told
@@ -59,7 +52,7 @@ returns : tie.Need-returns
 returns c =
     let x = c .before .before .before .before .before .before .before .before .before .before .before .before .args in (
       outside-none _ _ _,
-      act-same (circuit (x .t .now) (x .n)) (x .values .now)
+      act-same (circuit (x .t .now) (x .n))
           (ap (λ (v : ℕ). Poke v (c .before .before .before .before .before .before .before .stimulus .given .0 .1 .0))
           (c .before .before .before .wide .ensures .0) ∙ sym
           (c .before .before .before .before .before .before .before .stimulus .given .1))
@@ -76,7 +69,7 @@ returns-2 : tie.Need-returns-2
 returns-2 c =
     let x = c .before .before .before .before .before .before .before .before .before .before .before .before .args in (
       c .before .before .before .before .tick .ensures .0,
-      act-same (circuit (x .t .now) (x .n)) (x .values .now)
+      act-same (circuit (x .t .now) (x .n))
           (sym (c .before .before .before .before .before .before .before .enum-told .given .1))
           (c .before .before .before .before .tick .ensures .1),
     )

@@ -1,8 +1,11 @@
 -- One number is stored, and the wires settle.
 -- Assumes nothing.
-use mathlib.Core.Path.{refl, _∙_}
+use mathlib.Core.Path.{_∙_}
+use native.Mathlib.Omega.{arith}
 use lib.ListN.{length-set}
-use Rattle.machine.proofs.Acting.{poke-holds}
+use Rattle.circuit.specs.Circuit.{circuit}
+use Rattle.engine.proofs.Standing.{wired-long}
+use Rattle.machine.proofs.Acting.{poke-moves}
 use borrow.Author.Needs.{needs}
 use Rattle.machine.proofs.run.poke.Statement.{statement}
 use Rattle.machine.proofs.run.poke.Tie as tie
@@ -15,8 +18,7 @@ slice-write-values c = search needs
 
 settle-requires : tie.Need-settle-requires
 settle-requires c κs =
-    let p = c .before .before .before .before .pre in
-    ((p .0 .0, simp length-set (p .0 .1), p .0 .2), (p .1 .0, p .1 .1))
+    wired-long (c .before .before .before .before .pre .0) (simp length-set)
 
 same-length : tie.Need-same-length
 same-length c = c .before .before .settle .ensures .kept .long ∙ simp length-set
@@ -25,8 +27,8 @@ returns : tie.Need-returns
 returns c =
     let x = c .before .before .before .before .before .before .before .args in
     let p = c .before .before .before .before .before .before .before .pre in
-    poke-holds (x .t .now) (x .n) (p .1 .0) (p .1 .1) (c .before .before .settle .ensures) (x .v) (x .x) (p .0 .3)
-    (p .0 .1) refl
+    poke-moves (circuit (x .t .now) (x .n)) (x .v) (x .x) (p .1) (omega (arith, p .0 .store .lent))
+    (c .before .before .settle .ensures)
 
 pub poke-spec : {M : Type 1} → statement M
 poke-spec = tie.close (tie.spec mul-values slice-write-values settle-requires same-length returns)

@@ -24,7 +24,7 @@ abbrev μ-loop : tie.MeasureT-loop
 μ-loop t n s scratch₀ wires registers values₀ count i₀ scratch values i = length s / 8 - i
 
 loop-holds : tie.Need-loop-holds Inv-loop μ-loop
-loop-holds c = (search needs, none-ran _ _ (c .before .before .before .before .pre .0))
+loop-holds c = (search needs, none-ran _ (c .before .before .before .before .pre .0))
 
 mul-stimulus-at : tie.Need-mul-stimulus-at Inv-loop μ-loop
 mul-stimulus-at c = omega arith
@@ -34,7 +34,7 @@ stimulus-at-requires c κs =
     let l = c .before .before .before in
     let x = l .before .before .before .before .before .args in
     let p = l .before .before .before .before .before .pre in
-    (omega arith, stimulus-passed (circuit (x .t .now) (x .n)) (x .s .now) (p .1 .1) (l .loop .i) (omega arith) .0)
+    (omega arith, stimulus-passed (circuit (x .t .now) (x .n)) (x .s .now) (p .1) (l .loop .i) (omega arith) .0)
 
 act-requires : tie.Need-act-requires Inv-loop μ-loop
 act-requires c κs =
@@ -43,11 +43,8 @@ act-requires c κs =
     let p = l .before .before .before .before .before .pre in
     let C = circuit (x .t .now) (x .n) in (
       l .loop .inv .1 .ready,
-      (
-        omega (arith, p .1 .0, l .loop .inv .1 .kept .long),
-        subst (λ (y : Stimulus). checkStimulus C (Read y) 0 ≡ Passed) (sym (c .stimulus-at .ensures))
-            (stimulus-passed C (x .s .now) (p .1 .1) (l .loop .i) (omega arith) .1),
-      ),
+      subst (λ (y : Stimulus). checkStimulus C (Read y) 0 ≡ Passed) (sym (c .stimulus-at .ensures))
+          (stimulus-passed C (x .s .now) (p .1) (l .loop .i) (omega arith) .1),
     )
 
 add-i : tie.Need-add-i Inv-loop μ-loop
@@ -63,20 +60,20 @@ loop-again c =
       omega arith,
       one-ran (l .loop .inv .1) (omega arith)
           (c .before .before .before .before .act .ensures .0)
-          (act-same (circuit (x .t .now) (x .n)) (l .loop .values)
+          (act-same (circuit (x .t .now) (x .n))
           (c .before .before .before .before .before .stimulus-at .ensures)
           (c .before .before .before .before .act .ensures .1)),
     )
 
 same-length : tie.Need-same-length Inv-loop μ-loop
-same-length c = c .before .loop .inv .1 .scratch-kept .long
+same-length c = c .before .loop .inv .1 .kept .long
 
 same-length-2 : tie.Need-same-length-2 Inv-loop μ-loop
-same-length-2 c = c .before .loop .inv .1 .kept .long
+same-length-2 c = c .before .loop .inv .1 .moves .kept .long
 
 returns : tie.Need-returns Inv-loop μ-loop
 returns c = (
-  c .before .loop .inv .1 .scratch-kept,
+  c .before .loop .inv .1 .kept,
   all-ran (c .before .loop .inv .1) (omega arith)
       (c .before .loop .inv .0),
 )

@@ -1,7 +1,9 @@
 -- The registers' next values are staged and written, and the wires settle.
 -- Assumes nothing.
 use native.Mathlib.Omega.{arith}
-use Rattle.machine.proofs.Acting.{ready-kept, tick-holds}
+use Rattle.circuit.specs.Circuit.{circuit}
+use Rattle.engine.proofs.Standing.{wired-long, ready-kept}
+use Rattle.machine.proofs.Acting.{tick-moves}
 use borrow.Author.Needs.{needs}
 use Rattle.machine.proofs.tick.tick.Statement.{statement}
 use Rattle.machine.proofs.tick.tick.Tie as tie
@@ -11,17 +13,16 @@ stage-requires c κs = search needs
 
 commit-requires : tie.Need-commit-requires
 commit-requires c κs =
-    let p = c .before .before .before .before .before .before .before .before .before .before .pre in
     let staged = c .before .before .before .before .stage .ensures in
-    (ready-kept (p .0) (staged .0), (p .1, staged .1))
+    let p = c .before .before .before .before .before .before .before .before .before .before .pre in
+    (ready-kept p (omega arith) (staged .0), staged .1)
 
 settle-requires : tie.Need-settle-requires
 settle-requires c κs =
     let s = c .before .before .before .before .before .before .before .before .before in
     let p = s .before .before .before .before .before .before .pre in
-    let r = ready-kept (p .0) (s .stage .ensures .0) in
-    let long = c .before .before .before .before .commit .ensures .kept .long in
-    ((r .table, omega (arith, p .1, long), omega (arith, r .room, r .fits)), (r .valid, r .order))
+    wired-long (ready-kept p (omega arith) (s .stage .ensures .0) .wired)
+    (c .before .before .before .before .commit .ensures .kept .long)
 
 same-length : tie.Need-same-length
 same-length c = search needs
@@ -32,11 +33,11 @@ same-length-2 c = search needs
 returns : tie.Need-returns
 returns c =
     let s = c .before .before .before .before .before .before .before .before .before .before .before .before in
-    let x = s .before .before .before .before .before .before .args in
-    let r = s .before .before .before .before .before .before .pre .0 in (
+    let x = s .before .before .before .before .before .before .args in (
       s .stage .ensures .0,
-      tick-holds (x .t .now) (x .n) (r .valid) (r .order) (c .before .before .settle .ensures)
-          (c .before .before .before .before .before .before .before .commit .ensures),
+      tick-moves (circuit (x .t .now) (x .n))
+          (c .before .before .before .before .before .before .before .commit .ensures)
+          (c .before .before .settle .ensures),
     )
 
 pub tick-spec : {M : Type 1} → statement M

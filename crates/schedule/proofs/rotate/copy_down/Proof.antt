@@ -4,8 +4,8 @@ use mathlib.Core.Path.{_≡_}
 use Prim.Native.Nat.{_+_, _-_, _≤_}
 use native.Mathlib.Omega.{arith}
 use lib.ListN.{getD}
-use Rattle.schedule.specs.Scratch.{Filled}
-use Rattle.schedule.proofs.Filled.{filled-none, filled-more}
+use Rattle.buffer.specs.Kept.{Filled}
+use Rattle.buffer.proofs.Filled.{filled-none, filled-more}
 use Rattle.schedule.proofs.rotate.copy_down.Statement.{statement}
 use Rattle.schedule.proofs.rotate.copy_down.Tie as tie
 

@@ -4,8 +4,9 @@ use mathlib.Core.Path.{_≡_, refl, ap, _∙_}
 use Prim.Native.Nat.{ℕ, _+_, _-_, _≤_}
 use native.Mathlib.Omega.{arith}
 use lib.ListN.{getD}
-use Rattle.schedule.specs.Scratch.{Filled, rotation}
-use Rattle.schedule.proofs.Filled.{filled-none, filled-more}
+use Rattle.buffer.specs.Kept.{Filled}
+use Rattle.schedule.specs.Shown.{rotation}
+use Rattle.buffer.proofs.Filled.{filled-none, filled-more}
 use Rattle.schedule.proofs.Rotation.{rotation-in}
 use Rattle.schedule.proofs.rotate.rotate.Statement.{statement}
 use Rattle.schedule.proofs.rotate.rotate.Tie as tie

@@ -11,7 +11,7 @@ wire-uses-requires : tie.Need-wire-uses-requires
 wire-uses-requires c κs =
     let a = c .before in (
       search needs,
-      records-valid (a .args .t .now) (a .args .n) (a .pre .0 .checked) (a .args .v) (a .pre .1) .kind,
+      records-valid (a .args .t .now) (a .args .n) (a .pre .0 .valid) (a .args .v) (a .pre .1) .kind,
     )
 
 wide-requires : tie.Need-wide-requires

@@ -12,15 +12,15 @@ use Rattle.schedule.proofs.walk.next_use.Tie as tie
 below : (c : tie.After-wide) → c .wide .result < c .before .before .before .before .args .n
 below c =
     let a = c .before .before .before .before in
-    rw (c .wide .ensures .0) (a .pre .1 .1 .0 .stacked-at (a .args .w .top) (omega arith) (a .pre .1 .1 .1) .0)
+    rw (c .wide .ensures .0) (a .pre .0 .invariant .stacked-at (a .args .w .top) (omega arith) (a .pre .1) .0)
 
 read : (c : tie.After-last-state) → let a = c .before .before .before .before .before .before .before in
     steps.TopRead (a .args .t .now) (a .args .n) (a .args .s .now) (a .args .w)
     (c .before .before .before .wide .result) (c .before .wide2 .result) (c .last-state .result)
 read c =
     let a = c .before .before .before .before .before .before .before in
-    steps.top-read (a .args .t .now) (a .args .n) (a .args .s .now) (a .args .w) (a .pre .1 .1 .0) (a .pre .1 .1 .1)
-    (c .before .before .before .wide .ensures .0) (c .before .wide2 .ensures .0) (c .last-state .ensures)
+    steps.top-read (a .pre .0) (a .pre .1) (c .before .before .before .wide .ensures .0)
+    (c .before .wide2 .ensures .0) (c .last-state .ensures)
 
 -- the use is a record
 below-use : (c : tie.After-used-at)
@@ -28,7 +28,7 @@ below-use : (c : tie.After-used-at)
 below-use c =
     let k = c .before .before in
     let a = k .before .before .before .before .before .before .before in
-    steps.use-below (a .pre .0) (read k) (c .before .if1 .left) (c .used-at .ensures)
+    steps.use-below (a .pre .0 .table) (read k) (c .before .if1 .left) (c .used-at .ensures)
 
 mul-wide : tie.Need-mul-wide
 mul-wide c = search needs
@@ -52,12 +52,12 @@ wide-requires-2 : tie.Need-wide-requires-2
 wide-requires-2 c κs = search needs
 
 last-state-requires : tie.Need-last-state-requires
-last-state-requires c κs = (c .before .before .before .before .before .before .pre .0, below (c .before .before))
+last-state-requires c κs = (c .before .before .before .before .before .before .pre .0 .table, below (c .before .before))
 
 returns : tie.Need-returns
 returns c =
     let a = c .before .before .before .before .before .before .before .before in
-    steps.none-left (a .pre .0) (read (c .before)) (c .if1 .taken)
+    steps.none-left (a .pre .0 .table) (read (c .before)) (c .if1 .taken)
 
 sub-used-at : tie.Need-sub-used-at
 sub-used-at c = omega (arith, read (c .before))
@@ -66,7 +66,7 @@ used-at-requires : tie.Need-used-at-requires
 used-at-requires c κs =
     let r = read (c .before) in
     let a = c .before .before .before .before .before .before .before .before in
-    (a .pre .0, (r .below, omega (arith, c .if1 .left)))
+    (a .pre .0 .table, (r .below, omega (arith, c .if1 .left)))
 
 add-wide-2 : tie.Need-add-wide-2
 add-wide-2 c = omega (arith, below-use c)
@@ -82,7 +82,7 @@ wide-requires-3 c κs = search needs
 
 last-state-requires-2 : tie.Need-last-state-requires-2
 last-state-requires-2 c κs = (
-  c .before .before .before .before .before .before .before .before .before .before .before .pre .0,
+  c .before .before .before .before .before .before .before .before .before .before .before .pre .0 .table,
   below-use (c .before .before),
 )
 
@@ -91,8 +91,8 @@ returns-2 c =
     let u = c .before .before .before .before in
     let k = u .before .before in
     let a = k .before .before .before .before .before .before .before in
-    steps.use-done (a .pre .0) (read k) (u .before .if1 .left) (u .used-at .ensures)
-    (steps.use-full (a .pre .0) (read k) (u .before .if1 .left) (u .used-at .ensures) (a .pre .1 .1 .0)
+    steps.use-done (a .pre .0 .table) (read k) (u .before .if1 .left) (u .used-at .ensures)
+    (steps.use-full (a .pre .0 .table) (read k) (u .before .if1 .left) (u .used-at .ensures) (a .pre .0)
     (omega (arith, c .if2 .taken, c .before .last-state2 .ensures, c .before .before .wide3 .ensures .0)))
 
 returns-3 : tie.Need-returns-3
@@ -101,7 +101,7 @@ returns-3 c =
     let k = u .before .before in
     let a = k .before .before .before .before .before .before .before in
     let other = c .before .before .before .wide3 .ensures .0 in
-    steps.use-unvisited (a .pre .0) (read k) (u .before .if1 .left) (u .used-at .ensures)
+    steps.use-unvisited (a .pre .0 .table) (read k) (u .before .if1 .left) (u .used-at .ensures)
     (omega (arith, c .before .if2 .left, c .before .before .last-state2 .ensures)) (sym other ∙ c .if3 .taken)
 
 returns-4 : tie.Need-returns-4
@@ -110,7 +110,8 @@ returns-4 c =
     let k = u .before .before in
     let a = k .before .before .before .before .before .before .before in
     let other = c .before .before .before .wide3 .ensures .0 in
-    steps.use-stacked (a .pre .0) (read k) (u .before .if1 .left) (u .used-at .ensures) (λ z. c .if3 .left (other ∙ z))
+    steps.use-stacked (a .pre .0 .table) (read k) (u .before .if1 .left) (u .used-at .ensures)
+    (λ z. c .if3 .left (other ∙ z))
     (omega (arith, c .before .if2 .left, c .before .before .last-state2 .ensures, other))
 
 pub next-use-spec : {M : Type 1} → statement M

@@ -2,14 +2,14 @@
 -- Assumes nothing.
 use borrow.Author.Needs.{needs}
 use mathlib.Core.Path.{_≡_, ap, _∙_}
-use Prim.Native.Nat.{_+_, _-_, _*_, _≤_}
+use Prim.Native.Nat.{_+_, _-_, _*_}
 use native.Mathlib.Omega.{arith}
 use lib.ListN.{length}
 use Rattle.net.specs.Net.{sumBelow}
 use Rattle.circuit.specs.Circuit.{circuit}
-use Rattle.schedule.specs.Scratch.{Kept}
-use Rattle.schedule.specs.Walk.{cellOf, stateOf, Walking, Progress, IsStacked}
-use Rattle.schedule.proofs.Filled.{kept-none, kept-trans}
+use Rattle.buffer.specs.Kept.{Kept}
+use Rattle.schedule.specs.Walk.{slotOf, stateOf, Walking, Progress, IsStacked}
+use Rattle.buffer.proofs.Filled.{kept-none, kept-trans}
 use Rattle.schedule.proofs.Invariant.{start}
 use Rattle.schedule.proofs.Steps as steps
 use Rattle.schedule.proofs.walk.visit_all.Statement.{statement}
@@ -20,10 +20,6 @@ Inv-loop t n s₀ w₀ s w = Walking t n s w × Kept (n + n) s₀ s
 
 abbrev μ-loop : tie.MeasureT-loop
 μ-loop t n s₀ w₀ s w = 6 * n - (w .root + sumBelow (stateOf n s) n)
-
--- the scratch is still long enough
-lent : (c : tie.At-loop Inv-loop μ-loop) → let n = c .before .before .before .args .n in n + n ≤ length (c .loop .s)
-lent c = omega (arith, c .loop .inv .1 .long, c .before .before .before .pre .1 .0)
 
 on : (c : tie.After-step Inv-loop μ-loop) → let k = c .before .before .before .before in
     let l = k .before .before .before in
@@ -42,8 +38,13 @@ closes c = rw (c .step2 .given .1) at (c .before .before .before .before .visit-
 loop-holds : tie.Need-loop-holds Inv-loop μ-loop
 loop-holds c =
     let a = c .before .before in (
-      start (circuit (a .args .t .now) (a .args .n)) (a .args .n) (cellOf (a .args .s .now))
-          (stateOf (a .args .n) (a .args .s .now)) (a .pre .1 .1),
+      record {
+        table = a .pre .0;
+        lent = a .pre .1 .0;
+        invariant =
+            start (circuit (a .args .t .now) (a .args .n)) (a .args .n) (slotOf (a .args .s .now))
+            (stateOf (a .args .n) (a .args .s .now)) (a .pre .1 .1);
+      },
       kept-none _ _,
     )
 
@@ -53,35 +54,15 @@ same-length c = c .before .before .loop .inv .1 .long
 returns : tie.Need-returns Inv-loop μ-loop
 returns c =
     let l = c .before .before in
-    let a = l .before .before .before in (
-      steps.all-finished (a .pre .0) (l .loop .s) (l .loop .w) (lent l) (l .loop .inv .0) (c .if2 .taken)
-          (c .before .if1 .taken),
-      l .loop .inv .1,
-    )
+    (steps.all-finished (l .loop .inv .0) (c .if2 .taken) (c .before .if1 .taken), l .loop .inv .1)
 
 visit-root-requires : tie.Need-visit-root-requires Inv-loop μ-loop
 visit-root-requires c κs =
-    let l = c .before .before .before in
-    let a = l .before .before .before in (
-      a .pre .0,
-      (
-        lent l,
-        (
-          l .loop .inv .0,
-          (
-            c .before .before .if1 .taken,
-            omega (arith, l .loop .inv .0 .root-most, c .before .if2 .left),
-          ),
-        ),
-      ),
-    )
+    let w = c .before .before .before .loop .inv .0 in
+    (w, (c .before .before .if1 .taken, omega (arith, w .invariant .root-most, c .before .if2 .left)))
 
 loop-less : tie.Need-loop-less Inv-loop μ-loop
-loop-less c =
-    let b = c .before .before in
-    let l = b .before .before .before .before in
-    let a = l .before .before .before in
-    steps.nearer (a .pre .0) (lent l) (b .visit-root .ensures)
+loop-less c = steps.nearer (c .before .before .visit-root .ensures)
 
 loop-again : tie.Need-loop-again Inv-loop μ-loop
 loop-again c =
@@ -91,19 +72,14 @@ loop-again c =
 
 visit-top-requires : tie.Need-visit-top-requires Inv-loop μ-loop
 visit-top-requires c κs =
-    let l = c .before .before in
-    let a = l .before .before .before in
-    (a .pre .0, (lent l, (l .loop .inv .0, omega (arith, l .loop .inv .0 .top-most, c .before .if1 .left))))
+    let w = c .before .before .loop .inv .0 in
+    (w, omega (arith, w .invariant .top-most, c .before .if1 .left))
 
 enum-known-step : tie.Need-enum-known-step Inv-loop μ-loop
 enum-known-step c = search needs
 
 loop-less-2 : tie.Need-loop-less-2 Inv-loop μ-loop
-loop-less-2 c =
-    let k = c .before .before .before .before .before in
-    let l = k .before .before .before in
-    let a = l .before .before .before in
-    steps.nearer (a .pre .0) (lent l) (on (c .before))
+loop-less-2 c = steps.nearer (on (c .before))
 
 loop-again-2 : tie.Need-loop-again-2 Inv-loop μ-loop
 loop-again-2 c =
@@ -124,12 +100,8 @@ returns-2 : tie.Need-returns-2 Inv-loop μ-loop
 returns-2 c =
     let k = c .before .before .before .before .before in
     let l = k .before .before .before in
-    let a = l .before .before .before in
     let (same, found) = closes (c .before) in
-    rw same (
-      steps.stack-closes (a .pre .0) (l .loop .s) (l .loop .w) (lent l) (l .loop .inv .0) _ found,
-      l .loop .inv .1,
-    )
+    rw same (steps.stack-closes (l .loop .inv .0) _ found, l .loop .inv .1)
 
 pub visit-all-spec : {M : Type 1} → statement M
 visit-all-spec =

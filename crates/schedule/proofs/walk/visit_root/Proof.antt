@@ -21,8 +21,7 @@ returns c =
     let a = c .before .before .before .before in
     let z : last (circuit (a .args .t .now) (a .args .n)) (a .args .w .root) ≡ 0 =
     sym (c .before .last-state .ensures) ∙ c .if1 .taken in
-    steps.skipped (a .pre .0) (a .args .s .now) (a .args .w) (a .pre .1 .0) (a .pre .1 .1 .0)
-    _ (a .pre .1 .1 .1 .1) (λ h. absurd (omega arith)) (refl, refl, refl)
+    steps.skipped (a .pre .0) _ (a .pre .1 .1) (λ h. absurd (omega arith)) (refl, refl, refl)
 
 add-if2 : tie.Need-add-if2
 add-if2 c = search needs
@@ -36,8 +35,7 @@ slice-read-if2 c = search needs
 returns-2 : tie.Need-returns-2
 returns-2 c =
     let a = c .before .before .before .before .before .before in
-    steps.skipped (a .pre .0) (a .args .s .now) (a .args .w) (a .pre .1 .0) (a .pre .1 .1 .0)
-    _ (a .pre .1 .1 .1 .1) (λ h. omega (arith, c .if2 .taken)) (refl, refl, refl)
+    steps.skipped (a .pre .0) _ (a .pre .1 .1) (λ h. omega (arith, c .if2 .taken)) (refl, refl, refl)
 
 push-requires : tie.Need-push-requires
 push-requires c κs = search needs
@@ -52,8 +50,8 @@ returns-3 c =
     let a = k .before .before .before in
     let wire : 0 < last (circuit (a .args .t .now) (a .args .n)) (a .args .w .root) =
     omega (arith, k .last-state .ensures, p .before .before .before .before .if1 .left) in
-    steps.pushed (a .pre .0) (a .args .s .now) (a .args .w) (a .pre .1 .0) (a .pre .1 .1 .0)
-    (a .args .w .root) _ _ (a .pre .1 .1 .1 .1) wire (p .before .before .if2 .left) (λ h. absurd (omega arith))
+    steps.pushed (a .pre .0) (a .args .w .root) _ _ (a .pre .1 .1) wire (p .before .before .if2 .left)
+    (λ h. absurd (omega arith))
     (p .push .ensures .0) (p .push .ensures .1)
 
 pub visit-root-spec : {M : Type 1} → statement M

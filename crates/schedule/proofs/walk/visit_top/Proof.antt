@@ -36,7 +36,7 @@ pop-requires : tie.Need-pop-requires
 pop-requires c κs =
     let f = none-left (c .before .before) in
     let a = c .before .before .before .before .before .before .before .before in
-    omega (arith, f .below, a .pre .1 .1 .0 .apart, a .pre .0 .small, a .pre)
+    omega (arith, f .below, a .pre .0 .invariant .apart, a .pre .0 .table .small, a .pre .0 .lent, a .pre .1)
 
 enum-known-next-2 : tie.Need-enum-known-next-2
 enum-known-next-2 c = search needs
@@ -45,14 +45,14 @@ add-advance : tie.Need-add-advance
 add-advance c =
     let f = done (c .before .before) in
     let a = c .before .before .before .before .before .before .before .before in
-    omega (arith, f .below, a .pre .0 .small)
+    omega (arith, f .below, a .pre .0 .table .small)
 
 advance-requires : tie.Need-advance-requires
 advance-requires c κs =
     let f = done (c .before .before) in
     let a = c .before .before .before .before .before .before .before .before in
     let most = last-most (circuit (a .args .t .now) (a .args .n)) (c .before .before .next2 .given .0 .0) in
-    omega (arith, f, most, a .pre, a .pre .0 .small)
+    omega (arith, f, most, a .pre .0 .lent, a .pre .0 .table .small)
 
 enum-known-next-3 : tie.Need-enum-known-next-3
 enum-known-next-3 c = search needs
@@ -62,9 +62,8 @@ push-requires c κs =
     let f = unvisited (c .before .before) in
     let a = c .before .before .before .before .before .before .before .before in
     let free =
-    steps.room (a .pre .0) (a .args .s .now) (a .args .w) (a .pre .1 .0) (a .pre .1 .1 .0) _ (f .below)
-    (f .unvisited) in
-    omega (arith, f .below, a .pre, a .pre .0 .small)
+    steps.room (a .pre .0) _ (f .below) (f .unvisited) in
+    omega (arith, f .below, a .pre .0 .lent, a .pre .0 .invariant .top-most, a .pre .0 .table .small)
 
 enum-known-next-4 : tie.Need-enum-known-next-4
 enum-known-next-4 c = search needs
@@ -76,8 +75,8 @@ returns : tie.Need-returns
 returns c =
     let p = c .before .before in
     let a = p .before .before .before .before .before .before .before .before .before in
-    steps.popped (a .pre .0) (a .args .s .now) (a .args .w) (a .pre .1 .0) (a .pre .1 .1 .0) _ _ _
-    (a .pre .1 .1 .1) (none-left (p .before .before .before)) (p .pop .ensures .0) (p .pop .ensures .1)
+    steps.popped (a .pre .0) _ _ _
+    (a .pre .1) (none-left (p .before .before .before)) (p .pop .ensures .0) (p .pop .ensures .1)
 
 same-length-2 : tie.Need-same-length-2
 same-length-2 c = search needs
@@ -86,8 +85,8 @@ returns-2 : tie.Need-returns-2
 returns-2 c =
     let p = c .before .before in
     let a = p .before .before .before .before .before .before .before .before .before in
-    steps.advanced (a .pre .0) (a .args .s .now) (a .args .w) (a .pre .1 .0) (a .pre .1 .1 .0) _ _
-    (a .pre .1 .1 .1) (done (p .before .before .before)) (p .advance .ensures)
+    steps.advanced (a .pre .0) _ _
+    (a .pre .1) (done (p .before .before .before)) (p .advance .ensures)
 
 same-length-3 : tie.Need-same-length-3
 same-length-3 c = search needs
@@ -97,7 +96,7 @@ returns-3 c =
     let p = c .before .before in
     let f = unvisited (p .before .before .before) in
     let a = p .before .before .before .before .before .before .before .before .before in
-    steps.pushed (a .pre .0) (a .args .s .now) (a .args .w) (a .pre .1 .0) (a .pre .1 .1 .0) _ _ _
+    steps.pushed (a .pre .0) _ _ _
     (f .below) (f .wire) (f .unvisited) (λ h. (f .more, f .uses)) (p .push .ensures .0) (p .push .ensures .1)
 
 same-length-4 : tie.Need-same-length-4

@@ -4,7 +4,7 @@ use mathlib.Core.Path.{ap}
 use mathlib.Core.List.{_++_}
 use Prim.Native.Nat.{ℕ}
 use native.Mathlib.Omega.{arith}
-use Rattle.text.specs.Text.{decimal, newline, refused, at}
+use Rattle.text.specs.Text.{decimal, newline, isRefused, at}
 use Rattle.text.proofs.Decimal.{decimal-short}
 use Rattle.text.proofs.Pieces.{put-then, put-as}
 use borrow.Author.Needs.{needs}
@@ -74,7 +74,7 @@ returns : tie.Need-returns
 returns c =
     let number = c .before .before .before .before .before .before .before .before .ground-number in
     put-as (ap (λ (k : ℕ).
-    (refused ++ (decimal k ++
+    (isRefused ++ (decimal k ++
     (at ++ (decimal (c .before .before .before .before .before .before .before .before .before .before .before
     .before .before .before .before .before .before .before .before .before .before .before .before .before .args
     .place) ++ newline))))) (number .ensures))

@@ -1,0 +1,5 @@
+pub mod Along
+pub mod Together
+pub mod Standing
+pub mod Passes
+pub mod Rounds
