@@ -1,5 +1,6 @@
-//! The reserved words of Verilog and SystemVerilog (IEEE 1800-2017, annex B). Tools often read Verilog as
-//! SystemVerilog, so that both languages' words have to be escaped.
+//! The reserved words of Verilog and SystemVerilog (IEEE 1800-2017, annex B), and in the last line three that
+//! Icarus has of its own. Tools often read Verilog as SystemVerilog, so that both languages' words have to be
+//! escaped.
 
 /// Whether a name is a reserved word.
 pub(crate) fn is_reserved(name: &str) -> bool {
@@ -26,4 +27,5 @@ const WORDS: &str = "
     throughout time timeprecision timeunit tran tranif0 tranif1 tri tri0 tri1 triand trior trireg type
     typedef union unique unique0 unsigned until until_with untyped use uwire var vectored virtual void wait
     wait_order wand weak weak0 weak1 while wildcard wire with within wor xnor xor
+    bool wone wreal
 ";

@@ -4,14 +4,14 @@
 #[path = "../../../model/tests/common/mod.rs"]
 mod common;
 mod examples;
+mod runs;
 mod simulator;
 
 use common::samples::every_rule;
-use common::shapes::random_shape;
-use common::tables::random_stimuli;
 use common::{cases, Random};
 use examples::examples;
 use model::{find_loop, power_on, run, InputKind, Record, Stimulus};
+use runs::Run;
 use simulator::Module;
 use table::{read_stimuli, read_table, table_text, verilog, Table};
 
@@ -73,11 +73,7 @@ fn every_rule_at_its_boundaries() {
 fn random_tables() {
     let mut random = Random::of_test("simulated tables", 46);
     for _ in 0..cases(100_000) / 100 {
-        let n = 1 + random.below(40);
-        let bytes = random_shape(&mut random, n, false);
-        let table = read_table(&table_text(bytes.as_flattened()).unwrap()).unwrap();
-        let list = random_stimuli(&mut random, &table.records, 20);
-        let list = list.iter().map(|bytes| Stimulus::read(bytes, &table.records).unwrap());
-        assert_simulates(&table, &list.collect::<Vec<_>>());
+        let run = Run::random(&mut random);
+        assert_simulates(&run.table, &run.list);
     }
 }
