@@ -4,7 +4,7 @@
 use mathlib.Core.Path.{_≡_, refl, sym, ap, ap₂, _∙_}
 use mathlib.Core.Logic.{_⊎_, inl, inr}
 use mathlib.Core.List.{List}
-use Prim.Native.Nat.{ℕ, _-_}
+use Prim.Native.Nat.{ℕ}
 use lib.ListN.{length}
 use Rattle.circuit.specs.declared.refusal.Ground.{Ground}
 use Rattle.circuit.specs.declared.refusal.Check.{Check}
@@ -13,15 +13,18 @@ use Rattle.circuit.specs.Refusal.{groundNumber, Finds}
 use Rattle.circuit.proofs.Places.{ground-told}
 use Rattle.call.specs.Call.{Lent, Left, Answer, accepted, refused, Call, checked, scratchWith, LoopShown, Promises}
 
-passed-refused : {X : Type 0} (check : Check) (number place : ℕ) → check ≡ Passed → Finds check number place → X
+pub passed-refused : {X : Type 0} (check : Check) (number place : ℕ) → check ≡ Passed → Finds check number place → X
 passed-refused check number place p q = absurd (rw p at q)
 
--- a check finds one ground, at one place
+-- a check finds one number, at one place
+pub found-once : (check : Check) (n m i j : ℕ) → Finds check n i → Finds check m j → (n ≡ m) × (i ≡ j)
+found-once Passed n m i j p q = absurd p
+found-once (Refused ground at) n m i j p q = (sym (p .0) ∙ q .0, sym (p .1) ∙ q .1)
+
 refusal-unique : (check : Check) (g h : Ground) (i j : ℕ) → Finds check (groundNumber g) i
     → Finds check (groundNumber h) j → refused g i ≡ refused h j
-refusal-unique Passed g h i j p q = absurd p
-refusal-unique (Refused ground at) g h i j p q =
-    ap₂ refused (ground-told g h (sym (p .0) ∙ q .0)) (sym (p .1) ∙ q .1)
+refusal-unique check g h i j p q =
+    let (number, place) = found-once check _ _ i j p q in ap₂ refused (ground-told g h number) place
 
 same-left : {e e′ : Left} → e .outputs ≡ e′ .outputs → e .scratch ≡ e′ .scratch → e ≡ e′
 same-left p q = ap₂ (λ (o : List (List ℕ)) (s : List ℕ). record { outputs = o; scratch = s }) p q

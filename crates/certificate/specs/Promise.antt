@@ -1,17 +1,18 @@
 -- The certifying call: what it asks, and what an accepted table's certificate is. Its promise is that of every call on
 -- a table.
 -- Assumes nothing.
-use mathlib.Core.Path.{_≡_}
+use mathlib.Core.Path.{_≡_, refl}
 use mathlib.Core.List.{List, [], _∷_, _++_, flatMap}
 use Prim.Native.Nat.{ℕ, _*_, _≤_}
 use lib.ListN.{drop}
 use Rattle.net.specs.Net.{listBelow, after, Counts}
 use Rattle.circuit.specs.declared.refusal.Check.the-variants.{Passed}
 use Rattle.circuit.specs.Circuit.{Circuit, graph}
+use Rattle.circuit.specs.Checks.{checkRecords}
 use Rattle.fact.specs.Fact.{factBytes, factAt}
 use Rattle.fact.specs.Rule.{rule}
 use Rattle.fact.specs.Certificate.{LeastStore, initialStore, registers}
-use Rattle.call.specs.Call.{Lent, Left, Answer, accepted, refused, Call, outputOf, size, circuitOf, Promises}
+use Rattle.call.specs.Call.{Lent, Left, Answer, accepted, refused, Call, outputOf, size, circuitOf, Promises, foundOf}
 use Rattle.certificate.specs.declared.Certified.{Certified}
 use Rattle.certificate.specs.declared.Certified.the-variants.{Accepted, Refused}
 
@@ -49,3 +50,9 @@ answerOf (Refused g place) = refused g place
 -- the promise: what holds of the buffers and the answer
 abbrev pub Certifies : Lent → Left → Certified → Type 0
 Certifies l e r = Promises certifying l e (answerOf r)
+
+-- what it asks, computed: of a table of one record 8 bytes and four numbers, and one less of either is refused
+pub asks-hold : (foundOf certifying 7 4 ∷ foundOf certifying 8 3 ∷ foundOf certifying 8 4 ∷ [])
+    ≡ (3 ∷ 0 ∷ []) ∷ (4 ∷ 0 ∷ []) ∷ [] ∷ []
+unfolding checkRecords
+asks-hold = refl

@@ -36,7 +36,7 @@ module _ (f : Fields) where
   unfolding decode
   decode-register h = List·getD-eq-default (firstKinds f) (Register (f .width) (f .a) (f .value)) h
 
-by-kind : {P : Type 0} (k : ℕ) → (k ≡ 0 → P) → (k ≡ 1 → P) → (k ≡ 2 → P) → (k ≡ 3 → P) → (4 ≤ k → P) → P
+pub by-kind : {P : Type 0} (k : ℕ) → (k ≡ 0 → P) → (k ≡ 1 → P) → (k ≡ 2 → P) → (k ≡ 3 → P) → (4 ≤ k → P) → P
 by-kind zero a b c d e = a refl
 by-kind (suc zero) a b c d e = b refl
 by-kind (suc (suc zero)) a b c d e = c refl

@@ -11,3 +11,4 @@ pub mod Values
 pub mod Stimuli
 pub mod Places
 pub mod Evaluation
+pub mod Numbers

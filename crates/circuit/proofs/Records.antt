@@ -6,7 +6,7 @@ use mathlib.Core.Bool.{Bool, true, false, not, _&&_, _||_, and-true}
 use mathlib.Core.List.{[], _∷_}
 use Prim.Native.Nat.{ℕ, _^_, _<_, _≤_}
 use native.Mathlib.Omega.{arith}
-use borrow.Author.Tests.{ltb-false, leb-false, not-false, lt-ltb, le-ltb}
+use borrow.Author.Tests.{ltb-false, leb-false, eqb-false, not-false, lt-ltb, le-ltb}
 use lib.Dec.{eqb, leb, ltb}
 use Rattle.net.specs.Tests.{every}
 use Rattle.circuit.specs.declared.record.Fields.{Fields}
@@ -34,6 +34,7 @@ decode-encode (Register w a n) = refl
 -- none of grounds 5 to 10 holds of a record's fields, among n records
 pub record Valid (f : Fields) (n : ℕ) : Type 0 where
   pub kind : f .kind ≤ 4
+  pub width-least : 1 ≤ f .width
   pub width-most : f .width ≤ 32
   pub code : f .code < codes (f .kind)
   pub zeros : every (λ x. eqb x 0) (f .byte3 ∷ f .bytes10 ∷ unused (decode f) f) ≡ true
@@ -46,9 +47,12 @@ passed : (ground : Ground) (b : Bool) (next : ReadRecord) (r : Record) → refus
 passed ground true next r e = absurd (let z : _≡_ {A = ℕ} 0 1 = cc in omega arith)
 passed ground false next r e = (refl, e)
 
-or-false : (a b : Bool) → (a || b) ≡ false → (a ≡ false) × (b ≡ false)
-or-false true b e = absurd (let z : _≡_ {A = ℕ} 0 1 = cc in omega arith)
-or-false false b e = (refl, e)
+pub both-false : (a b : Bool) → (a || b) ≡ false → (a ≡ false) × (b ≡ false)
+both-false true b e = absurd (let z : _≡_ {A = ℕ} 0 1 = cc in omega arith)
+both-false false b e = (refl, e)
+
+positive : (n : ℕ) → (n ≡ 0 → ⊥) → 1 ≤ n
+positive n some = omega arith
 
 same-record : {x y : Record} → Read x ≡ Read y → x ≡ y
 same-record e = cc
@@ -63,9 +67,10 @@ read-valid f n r e =
     passed UnusedNotZero (not (every (λ x. eqb x 0) (f .byte3 ∷ f .bytes10 ∷ unused (decode f) f))) _ r (p7 .1) in
     let p9 = passed NoSuchVariable (not (every (λ v. ltb v n) (uses (decode f)))) _ r (p8 .1) in
     let p10 = passed ValueTooWide (leb (2 ^ f .width) (f .value)) _ r (p9 .1) in
-    let w = or-false (eqb (f .width) 0) (ltb 32 (f .width)) (p6 .0) in (
+    let w = both-false (eqb (f .width) 0) (ltb 32 (f .width)) (p6 .0) in (
       record {
         kind = ltb-false 4 (f .kind) (p5 .0);
+        width-least = let some = eqb-false (f .width) 0 (w .0) in positive (f .width) some;
         width-most = ltb-false 32 (f .width) (w .1);
         code = leb-false (codes (f .kind)) (f .code) (p7 .0);
         zeros = not-false _ (p8 .0);
@@ -83,7 +88,7 @@ and-twice false b = refl
 -- ---- the grounds in order
 
 pub width-most : (w : ℕ) → (eqb w 0 || ltb 32 w) ≡ false → w ≤ 32
-width-most w e = ltb-false 32 w (or-false (eqb w 0) (ltb 32 w) e .1)
+width-most w e = ltb-false 32 w (both-false (eqb w 0) (ltb 32 w) e .1)
 
 pub three-below : (a b c n : ℕ) → ltb a n ≡ true → ltb b n ≡ true → ltb c n ≡ every (λ v. ltb v n) (a ∷ b ∷ c ∷ [])
 unfolding every

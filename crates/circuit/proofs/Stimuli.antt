@@ -39,9 +39,9 @@ pub record Poked (c : Circuit) (v x : ℕ) : Type 0 where
   pub fits : x < 2 ^ width (recordOf c v)
   pub allowed : fixedToOther (inputOf (recordOf c v)) x ≡ false
 
-and-true : (a b : Bool) → (a && b) ≡ true → (a ≡ true) × (b ≡ true)
-and-true true b e = (refl, e)
-and-true false b e = absurd (let z : _≡_ {A = ℕ} 0 1 = cc in omega arith)
+pub both-true : (a b : Bool) → (a && b) ≡ true → (a ≡ true) × (b ≡ true)
+both-true true b e = (refl, e)
+both-true false b e = absurd (let z : _≡_ {A = ℕ} 0 1 = cc in omega arith)
 
 -- a poke that passes meets none of the three tests
 poke-tests : (c : Circuit) (v x i : ℕ) → checkStimulus c (Read (Poke v x)) i ≡ Passed
@@ -57,7 +57,7 @@ poke-tests c v x i e =
 pub poke-passed : (c : Circuit) (v x i : ℕ) → checkStimulus c (Read (Poke v x)) i ≡ Passed → Poked c v x
 poke-passed c v x i e =
     let (e15, e16, e17) = poke-tests c v x i e in
-    let q = and-true (ltb v (length c)) (isInput (inputOf (recordOf c v))) (not-false _ e15) in
+    let q = both-true (ltb v (length c)) (isInput (inputOf (recordOf c v))) (not-false _ e15) in
     record {
       below = ltb-true v (length c) (q .0);
       is-input = q .1;

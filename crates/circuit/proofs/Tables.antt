@@ -1,26 +1,29 @@
 -- What holds of a table that meets none of grounds 5 to 10: its circuit has its records, and they use its variables
--- alone. A circuit of which that holds, and that has no loop, has a rank.
+-- alone. A circuit of which that holds, and that has no loop, has a rank; one in which numbers fall along every wire's
+-- uses has no loop.
 -- Assumes nothing.
 use mathlib.Core.Path.{_≡_, refl, subst}
 use mathlib.Core.Logic.{⊎-elim}
+use mathlib.Core.Bool.{Bool, _&&_, _||_}
 use mathlib.Core.List.{List}
 use Prim.Native.Nat.{ℕ, zero, suc, _+_, _*_, _<_, _≤_}
 use native.Mathlib.Decide.{ℕ-discrete}
 use native.Mathlib.Omega.{arith}
 use borrow.Author.Tests.{ltb-true}
 use lib.Dec.{T, ltb}
-use lib.ListN.{length}
-use Rattle.net.specs.Tests.{member}
+use lib.ListN.{length, getD}
+use Rattle.net.specs.Tests.{allBelow, every, member}
+use Rattle.net.specs.Net.{wire}
 use Rattle.net.specs.Loop.{Uses}
-use Rattle.net.proofs.Bools.{T-of, of-T, every-at}
+use Rattle.net.proofs.Bools.{T-of, of-T, and-left, and-right, or-cases, all-at, every-at}
 use Rattle.net.proofs.Lists.{length-listBelow, getD-listBelow}
-use Rattle.net.proofs.Loops.{ranked-or-loop}
+use Rattle.net.proofs.Loops.{ranked-or-loop, ranked-no-loop}
 use Rattle.net.proofs.Settle.{Ranked}
 use Rattle.circuit.specs.declared.refusal.Check.the-variants as check
 use Rattle.circuit.specs.declared.record.ReadRecord.{ReadRecord}
 use Rattle.circuit.specs.declared.record.ReadRecord.the-variants.{Read, Refused}
 use Rattle.circuit.specs.declared.record.Record.{Record}
-use Rattle.circuit.specs.Record.{uses}
+use Rattle.circuit.specs.Record.{uses, role, isRegister}
 use Rattle.circuit.specs.Reading.{fieldsAt, decode, readRecord}
 use Rattle.circuit.specs.Circuit.{Circuit, circuit, recordOf, graph, NoLoop}
 use Rattle.circuit.specs.Checks.{atRecord, checkRecordsFrom, checkRecords}
@@ -80,3 +83,47 @@ circuit-inside t n e v u h m =
 
 pub circuit-ranked : (c : Circuit) → Inside c → NoLoop c → Ranked (graph c)
 circuit-ranked c inside none = ⊎-elim (λ r. r) (λ l. absurd (none (l .0) (l .1))) (ranked-or-loop (graph c) inside)
+
+-- ---- a rank of numbers that are written out
+
+module _ (c : Circuit) (rank : ℕ → ℕ) (v : ℕ) where
+  -- a variable is a register, or its number is above those of all that it uses
+  abbrev above : Bool
+  above = isRegister (recordOf c v) || every (λ u. ltb (rank u) (rank v)) (uses (recordOf c v))
+
+  -- and its number is below that of records
+  abbrev falling : Bool
+  falling = ltb (rank v) (length c) && above
+
+  wire-above : T above → role (recordOf c v) ≡ wire → (u : ℕ) → T (member u (uses (recordOf c v))) → rank u < rank v
+  wire-above h e u used =
+      or-cases (isRegister (recordOf c v)) (every (λ x. ltb (rank x) (rank v)) (uses (recordOf c v))) h
+      (λ t. absurd (rw (e, T, isRegister) at t))
+      (λ t. ltb-true (rank u) (rank v)
+      (of-T _ (every-at (λ x. ltb (rank x) (rank v)) (uses (recordOf c v)) t u used)))
+
+-- of numbers for a table's variables, in order
+abbrev pub Falls : List ℕ → ℕ → List ℕ → Type 0
+Falls t n ranks = T (allBelow (falling (circuit t n) (λ v. getD ranks v 0)) (length (circuit t n)))
+
+pub falling-no-loop : (t : List ℕ) (n : ℕ) (ranks : List ℕ) → checkRecords t n ≡ check.Passed → Falls t n ranks
+    → NoLoop (circuit t n)
+falling-no-loop t n ranks passed h =
+    ranked-no-loop
+    (record {
+      inside = circuit-inside t n passed;
+      rank = rank;
+      small = λ v below e.
+          ltb-true (rank v) (length c) (of-T _ (and-left (ltb (rank v) (length c)) (above c rank v) (here v below)));
+      falls = λ v u below e d used.
+          wire-above c rank v (and-right (ltb (rank v) (length c)) (above c rank v) (here v below)) e u used;
+    })
+  where
+    c : Circuit
+    c = circuit t n
+
+    rank : ℕ → ℕ
+    rank v = getD ranks v 0
+
+    here : (v : ℕ) → v < length c → T (falling c rank v)
+    here = all-at (falling c rank) (length c) h

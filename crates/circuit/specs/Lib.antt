@@ -8,3 +8,4 @@ pub mod Checks
 pub mod Machine
 pub mod Stimuli
 pub mod Runs
+pub mod Faults

@@ -55,7 +55,19 @@ kinds = kind.Input ∷ kind.Constant ∷ kind.Operator ∷ kind.Multiplexer ∷ 
 abbrev pub readKind : ℕ → ReadKind
 readKind byte = getD (map read-kind.Is kinds) byte read-kind.None
 
--- byte 2 of an input with the value n: 0 fixed, 1 free, 2 secret
+-- document 01's byte 2 of each kind of input
+abbrev pub inputCode : InputKind → ℕ
+inputCode (Fixed n) = 0
+inputCode Free = 1
+inputCode Secret = 2
+
+-- the value of a fixed input, else 0
+abbrev pub inputValue : InputKind → ℕ
+inputValue (Fixed n) = n
+inputValue Free = 0
+inputValue Secret = 0
+
+-- the kinds of input with the value n, in the order of their codes
 abbrev pub inputKinds : ℕ → List InputKind
 inputKinds n = Fixed n ∷ Free ∷ Secret ∷ []
 
@@ -87,9 +99,7 @@ fields byte0 width code a b c value =
 
 -- document 01's numbers of each kind of record: kind, width, byte 2, A, B, C and value
 abbrev pub encode : Record → Fields
-encode (Input w (Fixed n)) = fields 0 w 0 0 0 0 n
-encode (Input w Free) = fields 0 w 1 0 0 0 0
-encode (Input w Secret) = fields 0 w 2 0 0 0 0
+encode (Input w k) = fields 0 w (inputCode k) 0 0 0 (inputValue k)
 encode (Constant w n) = fields 1 w 0 0 0 0 n
 encode (Operator w op a b) = fields 2 w (operatorCode op) a b 0 0
 encode (Multiplexer w a b c) = fields 3 w 0 a b c 0

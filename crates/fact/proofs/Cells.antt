@@ -2,7 +2,7 @@
 -- Assumes nothing.
 use mathlib.Core.Path.{_≡_, refl, ap, _∙_}
 use mathlib.Core.List.{List, [], _∷_}
-use Prim.Native.Nat.{ℕ, _+_, _*_, _/_, _%_, _^_, _<_, _≤_}
+use Prim.Native.Nat.{ℕ, zero, suc, _+_, _*_, _/_, _%_, _^_, _<_, _≤_}
 use native.Mathlib.Nat.{div-div-eq-div-mul, mod-add-div}
 use native.Mathlib.Numerals.{add-one, add-two, add-three, add-four, add-five, add-six, add-seven}
 use native.Mathlib.Omega.{arith}
@@ -38,6 +38,29 @@ fact-of : (f : Fact) → factOf (factByte f) (factNumber f) ≡ f
 fact-of (Always n) = refl
 fact-of Open = refl
 fact-of Marked = refl
+
+-- what a fact says of the number: always carries it
+abbrev pub Carries : Fact → ℕ → Type 0
+Carries (Always m) n = m ≡ n
+Carries Open n = Unit {0}
+Carries Marked n = Unit {0}
+
+-- byte 0 and the number read as a fact exactly where the byte is its number, and always carries the number
+pub fact-read : (byte n : ℕ) (f : Fact) → 1 ≤ byte → byte ≤ 3
+    → (factOf byte n ≡ f → (byte ≡ factByte f) × Carries f n) × ((byte ≡ factByte f) × Carries f n → factOf byte n ≡ f)
+fact-read byte n f low high = (λ e. rw e at (at-byte byte n low high), λ e. rw (e .0) (of-byte f n (e .1)))
+  where
+    at-byte : (byte n : ℕ) → 1 ≤ byte → byte ≤ 3 → (byte ≡ factByte (factOf byte n)) × Carries (factOf byte n) n
+    at-byte zero n low high = absurd (omega arith)
+    at-byte (suc zero) n low high = (refl, refl)
+    at-byte (suc (suc zero)) n low high = (refl, tt)
+    at-byte (suc (suc (suc zero))) n low high = (refl, tt)
+    at-byte (suc (suc (suc (suc byte)))) n low high = absurd (omega arith)
+
+    of-byte : (f : Fact) (n : ℕ) → Carries f n → factOf (factByte f) n ≡ f
+    of-byte (Always m) n e = rw e
+    of-byte Open n e = refl
+    of-byte Marked n e = refl
 
 -- ---- a fact among a certificate's bytes
 

@@ -3,3 +3,4 @@ pub mod Claims
 pub mod Certificate
 pub mod Cells
 pub mod Rules
+pub mod Cases

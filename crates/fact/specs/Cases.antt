@@ -1,31 +1,36 @@
--- Document 01's cases A to J, from bytes: the table's 16-byte records, the count of rounds, and the facts that the
--- document names.
+-- Document 01's cases A to J, from bytes: the table's 16-byte records, the count of rounds, whether it meets the bound,
+-- and the facts that the document names.
 -- Assumes nothing.
-use mathlib.Core.Path.{_≡_, refl}
+use mathlib.Core.Path.{_≡_}
+use mathlib.Core.Bool.{Bool, true, false}
 use mathlib.Core.List.{List, [], _∷_, flatten, map}
 use Prim.Native.Nat.{ℕ, _*_}
+use lib.Dec.{eqb}
 use lib.ListN.{length}
 use Rattle.circuit.specs.declared.refusal.Check.the-variants.{Passed}
 use Rattle.circuit.specs.Refusal.{_then_}
-use Rattle.circuit.specs.Circuit.{circuit}
+use Rattle.circuit.specs.Circuit.{circuit, NoLoop}
 use Rattle.circuit.specs.Checks.{checkLength, checkRecords}
 use Rattle.fact.specs.declared.Fact.{Fact}
 use Rattle.fact.specs.declared.Fact.the-variants.{Always, Open, Marked}
 use Rattle.fact.specs.Certificate.{registers, rounds, certificate}
 
--- the facts are those of the variables beside them
+-- the count, whether it is twice the registers, and the facts of the variables beside them
 pub record Case : Type 0 where
   pub records : List (List ℕ)
   pub rounds : ℕ
+  pub bound-met : Bool
   pub variables : List ℕ
   pub facts : List Fact
 
--- the table meets none of grounds 1, 2 and 5 to 10, and its certificate has the count and the facts
+-- the table meets none of grounds 1, 2 and 5 to 11, and its certificate has the count and the facts
 abbrev pub CaseHolds : List ℕ → ℕ → Case → Type 0
 CaseHolds t n x =
     (length t ≡ n * 16)
     × ((checkLength (length t) then checkRecords t n) ≡ Passed)
+    × NoLoop (circuit t n)
     × (rounds (circuit t n) ≡ x .rounds)
+    × (eqb (rounds (circuit t n)) (2 * registers (circuit t n)) ≡ x .bound-met)
     × (map (certificate (circuit t n)) (x .variables) ≡ x .facts)
 
 abbrev pub CasesHold : List Case → Type 0
@@ -50,42 +55,46 @@ caseA =
     record {
       records = withRecord1 (0 ∷ 1 ∷ 1 ∷ 0 ∷ 0 ∷ 0 ∷ 0 ∷ 0 ∷ 0 ∷ 0 ∷ 0 ∷ 0 ∷ 0 ∷ 0 ∷ 0 ∷ 0 ∷ []);
       rounds = 1;
+      bound-met = false;
       variables = 0 ∷ 1 ∷ 2 ∷ 3 ∷ 4 ∷ 5 ∷ 6 ∷ [];
       facts = Marked ∷ Open ∷ Always 5 ∷ Open ∷ Open ∷ Open ∷ Marked ∷ [];
     }
 
 -- B: record 1 fixed 0
-abbrev caseB : Case
+abbrev pub caseB : Case
 caseB =
     record {
       records = withRecord1 (0 ∷ 1 ∷ 0 ∷ 0 ∷ 0 ∷ 0 ∷ 0 ∷ 0 ∷ 0 ∷ 0 ∷ 0 ∷ 0 ∷ 0 ∷ 0 ∷ 0 ∷ 0 ∷ []);
       rounds = 0;
+      bound-met = false;
       variables = 1 ∷ 3 ∷ 4 ∷ 5 ∷ [];
       facts = Always 0 ∷ Always 0 ∷ Always 0 ∷ Always 5 ∷ [];
     }
 
 -- C: record 1 fixed 1
-abbrev caseC : Case
+abbrev pub caseC : Case
 caseC =
     record {
       records = withRecord1 (0 ∷ 1 ∷ 0 ∷ 0 ∷ 0 ∷ 0 ∷ 0 ∷ 0 ∷ 0 ∷ 0 ∷ 0 ∷ 0 ∷ 1 ∷ 0 ∷ 0 ∷ 0 ∷ []);
       rounds = 1;
+      bound-met = false;
       variables = 1 ∷ 3 ∷ 4 ∷ 5 ∷ [];
       facts = Always 1 ∷ Open ∷ Open ∷ Open ∷ [];
     }
 
 -- D: record 1 secret
-abbrev caseD : Case
+abbrev pub caseD : Case
 caseD =
     record {
       records = withRecord1 (0 ∷ 1 ∷ 2 ∷ 0 ∷ 0 ∷ 0 ∷ 0 ∷ 0 ∷ 0 ∷ 0 ∷ 0 ∷ 0 ∷ 0 ∷ 0 ∷ 0 ∷ 0 ∷ []);
       rounds = 1;
+      bound-met = false;
       variables = 1 ∷ 3 ∷ 4 ∷ 5 ∷ [];
       facts = Marked ∷ Marked ∷ Marked ∷ Marked ∷ [];
     }
 
 -- E: register p (1) fed by constant 1 (0), register q (2) fed by p
-abbrev caseE : Case
+abbrev pub caseE : Case
 caseE =
     record {
       records =
@@ -94,12 +103,13 @@ caseE =
           ∷ (4 ∷ 1 ∷ 0 ∷ 0 ∷ 1 ∷ 0 ∷ 0 ∷ 0 ∷ 0 ∷ 0 ∷ 0 ∷ 0 ∷ 0 ∷ 0 ∷ 0 ∷ 0 ∷ [])
           ∷ [];
       rounds = 2;
+      bound-met = false;
       variables = 1 ∷ 2 ∷ [];
       facts = Open ∷ Open ∷ [];
     }
 
 -- F: register r (0) fed by a multiplexer (1) with control r, B secret (2), C constant 1 (3)
-abbrev caseF : Case
+abbrev pub caseF : Case
 caseF =
     record {
       records =
@@ -109,12 +119,13 @@ caseF =
           ∷ (1 ∷ 1 ∷ 0 ∷ 0 ∷ 0 ∷ 0 ∷ 0 ∷ 0 ∷ 0 ∷ 0 ∷ 0 ∷ 0 ∷ 1 ∷ 0 ∷ 0 ∷ 0 ∷ [])
           ∷ [];
       rounds = 2;
+      bound-met = true;
       variables = 0 ∷ [];
       facts = Marked ∷ [];
     }
 
 -- G: multiplexer width 1 (3), secret control (0), arms constants 1 (1) and 3 (2) of width 2
-abbrev caseG : Case
+abbrev pub caseG : Case
 caseG =
     record {
       records =
@@ -124,12 +135,13 @@ caseG =
           ∷ (3 ∷ 1 ∷ 0 ∷ 0 ∷ 0 ∷ 0 ∷ 1 ∷ 0 ∷ 2 ∷ 0 ∷ 0 ∷ 0 ∷ 0 ∷ 0 ∷ 0 ∷ 0 ∷ [])
           ∷ [];
       rounds = 0;
+      bound-met = true;
       variables = 3 ∷ [];
       facts = Always 1 ∷ [];
     }
 
 -- H: width 4, 2 - 5
-abbrev caseH : Case
+abbrev pub caseH : Case
 caseH =
     record {
       records =
@@ -138,12 +150,13 @@ caseH =
           ∷ (2 ∷ 4 ∷ 1 ∷ 0 ∷ 0 ∷ 0 ∷ 1 ∷ 0 ∷ 0 ∷ 0 ∷ 0 ∷ 0 ∷ 0 ∷ 0 ∷ 0 ∷ 0 ∷ [])
           ∷ [];
       rounds = 0;
+      bound-met = true;
       variables = 2 ∷ [];
       facts = Always 13 ∷ [];
     }
 
 -- I: width 32, 1 times 2^31, and by 32
-abbrev caseI : Case
+abbrev pub caseI : Case
 caseI =
     record {
       records =
@@ -154,12 +167,13 @@ caseI =
           ∷ (2 ∷ 32 ∷ 7 ∷ 0 ∷ 0 ∷ 0 ∷ 2 ∷ 0 ∷ 0 ∷ 0 ∷ 0 ∷ 0 ∷ 0 ∷ 0 ∷ 0 ∷ 0 ∷ [])
           ∷ [];
       rounds = 0;
+      bound-met = true;
       variables = 3 ∷ 4 ∷ [];
       facts = Always 2147483648 ∷ Always 0 ∷ [];
     }
 
 -- J: a secret xor itself
-abbrev caseJ : Case
+abbrev pub caseJ : Case
 caseJ =
     record {
       records =
@@ -167,48 +181,10 @@ caseJ =
           ∷ (2 ∷ 8 ∷ 4 ∷ 0 ∷ 0 ∷ 0 ∷ 0 ∷ 0 ∷ 0 ∷ 0 ∷ 0 ∷ 0 ∷ 0 ∷ 0 ∷ 0 ∷ 0 ∷ [])
           ∷ [];
       rounds = 0;
+      bound-met = true;
       variables = 1 ∷ [];
       facts = Marked ∷ [];
     }
 
 abbrev pub cases : List Case
 cases = caseA ∷ caseB ∷ caseC ∷ caseD ∷ caseE ∷ caseF ∷ caseG ∷ caseH ∷ caseI ∷ caseJ ∷ []
-
-pub cases-hold : CasesHold cases
-unfolding flatten circuit checkRecords rounds certificate
-cases-hold = (
-  (refl, refl, refl, refl),
-  (
-    (refl, refl, refl, refl),
-    (
-      (refl, refl, refl, refl),
-      (
-        (refl, refl, refl, refl),
-        (
-          (refl, refl, refl, refl),
-          (
-            (refl, refl, refl, refl),
-            (
-              (refl, refl, refl, refl),
-              (
-                (refl, refl, refl, refl),
-                (
-                  (refl, refl, refl, refl),
-                  (
-                    (refl, refl, refl, refl),
-                    tt,
-                  ),
-                ),
-              ),
-            ),
-          ),
-        ),
-      ),
-    ),
-  ),
-)
-
--- in F the bound is met
-pub bound-met : rounds (circuit (flatten (caseF .records)) 4) ≡ 2 * registers (circuit (flatten (caseF .records)) 4)
-unfolding flatten circuit rounds registers
-bound-met = refl

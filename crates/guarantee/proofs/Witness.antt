@@ -3,20 +3,13 @@
 -- Assumes nothing.
 use mathlib.Core.Path.{_≡_, refl, sym, ap, _∙_, subst}
 use mathlib.Core.Logic.{_⊎_, inl, inr}
-use mathlib.Core.Bool.{Bool, _||_}
-use mathlib.Core.List.{List, [], _∷_, flatten, flatMap}
+use mathlib.Core.List.{List, flatten, flatMap}
 use Prim.Native.Nat.{ℕ, zero, suc, _*_, _≤_, _<_}
 use native.Mathlib.Omega.{arith}
-use borrow.Author.Tests.{ltb-true}
-use lib.Dec.{T, ltb}
 use lib.ListN.{length, getD}
-use Rattle.net.specs.Tests.{allBelow, every, member}
-use Rattle.net.specs.Net.{wire, listBelow, after, Counts}
-use Rattle.net.proofs.Bools.{of-T, or-cases, all-at, every-at}
+use Rattle.net.specs.Net.{listBelow, after, Counts}
 use Rattle.net.proofs.Lists.{getD-listBelow}
-use Rattle.net.proofs.Loops.{ranked-no-loop}
-use Rattle.circuit.specs.Record.{uses, role, isRegister}
-use Rattle.circuit.specs.Circuit.{Circuit, circuit, recordOf, graph, NoLoop}
+use Rattle.circuit.specs.Circuit.{Circuit, circuit, graph, NoLoop}
 use Rattle.circuit.specs.Checks.{checkRecords}
 use Rattle.circuit.specs.Machine.{machine}
 use Rattle.circuit.specs.Stimuli.{checkStimuli, stimuli}
@@ -26,6 +19,7 @@ use Rattle.fact.specs.declared.Fact.the-variants.{Open}
 use Rattle.fact.specs.Fact.{factAt}
 use Rattle.fact.specs.Rule.{rule}
 use Rattle.fact.specs.Certificate.{initialStore, registers, rounds, certificate}
+use Rattle.fact.proofs.Cases.{cases-hold}
 use Rattle.fact.proofs.Certificate.{least-agree, certificate-least, rounds-counted, rounds-few}
 use Rattle.call.specs.Call.{circuitOf}
 use Rattle.certificate.specs.declared.Certified.the-variants as certified
@@ -37,31 +31,6 @@ use Rattle.guarantee.specs.Witness as witness
 use Rattle.guarantee.specs.Witness.{table, stimuli₁, stimuli₂, values₁, values₂, zeros, written}
 use Rattle.guarantee.proofs.TwoRuns.{two-runs-guaranteed}
 
--- ---- a circuit has no loop where a rank falls along every wire's uses
-
--- a variable is a register, or its rank is above that of all that it uses
-abbrev falling : Circuit → (ℕ → ℕ) → ℕ → Bool
-falling c rank v = isRegister (recordOf c v) || every (λ u. ltb (rank u) (rank v)) (uses (recordOf c v))
-
-falls : (c : Circuit) (rank : ℕ → ℕ) (v u : ℕ) → T (falling c rank v) → role (recordOf c v) ≡ wire
-    → T (member u (uses (recordOf c v))) → rank u < rank v
-falls c rank v u h e used =
-    or-cases (isRegister (recordOf c v)) (every (λ x. ltb (rank x) (rank v)) (uses (recordOf c v))) h
-    (λ t. absurd (rw (e, T, isRegister) at t))
-    (λ t. ltb-true (rank u) (rank v) (of-T _ (every-at (λ x. ltb (rank x) (rank v)) (uses (recordOf c v)) t u used)))
-
-no-loop-by-rank : (c : Circuit) (rank : ℕ → ℕ) → Inside c → T (allBelow (λ v. ltb (rank v) (length c)) (length c))
-    → T (allBelow (falling c rank) (length c)) → NoLoop c
-no-loop-by-rank c rank inside small h =
-    ranked-no-loop
-    (record {
-      inside = inside;
-      rank = rank;
-      small = λ v below e.
-          ltb-true (rank v) (length c) (of-T _ (all-at (λ x. ltb (rank x) (length c)) (length c) small v below));
-      falls = λ v u below e d used. falls c rank v u (all-at (falling c rank) (length c) h v below) e used;
-    })
-
 -- ---- case A's table
 
 abbrev c : Circuit
@@ -72,8 +41,8 @@ unfolding checkRecords flatten
 inside = circuit-inside table 7 refl
 
 no-loop : NoLoop c
-unfolding circuit flatten allBelow every
-no-loop = no-loop-by-rank c (λ v. getD (0 ∷ 0 ∷ 0 ∷ 0 ∷ 2 ∷ 1 ∷ 1 ∷ []) v 0) inside tt tt
+unfolding flatten
+no-loop = cases-hold .0 .2
 
 -- the certificate's bytes hold the facts of the certificate
 facts-written : (v : ℕ) → v < length c → factAt witness.certificate v ≡ certificate c v

@@ -1,25 +1,15 @@
--- What a stimulus reads as where ground 14 does not hold of it.
+-- What a stimulus of a list that passed reads as.
 -- Assumes nothing.
-use mathlib.Core.Path.{_≡_, sym, ap, _∙_}
-use mathlib.Core.Bool.{Bool, false}
+use mathlib.Core.Path.{_≡_}
+use mathlib.Core.Bool.{false}
+use mathlib.Core.List.{List}
 use Prim.Native.Nat.{ℕ}
-use native.Mathlib.Omega.{arith}
 use Rattle.net.specs.declared.Stimulus.{Stimulus}
-use Rattle.circuit.specs.declared.refusal.Ground.{Ground}
 use Rattle.circuit.specs.declared.stimulus.ReadStimulus.{ReadStimulus}
-use Rattle.circuit.specs.declared.stimulus.ReadStimulus.the-variants.{Read, Refused}
-use Rattle.circuit.specs.Stimuli.{readFrom}
+use Rattle.circuit.specs.Stimuli.{stimulusAt, badStimulus, readStimulus}
+use Rattle.machine.specs.Reading.{stimulusIn}
 
-abbrev readOr : Stimulus → ReadStimulus → Stimulus
-readOr other (Read x) = x
-readOr other (Refused ground) = other
-
-module _ (bad : Bool) (x : Stimulus) (good : bad ≡ false) where
-  read-is : readFrom bad x ≡ Read x
-  read-is = rw good
-
-  pub read-told : {r : ReadStimulus} {y : Stimulus} → r ≡ readFrom bad x → r ≡ Read y → y ≡ x
-  read-told e told = ap (readOr x) (sym told ∙ e ∙ read-is)
-
-  pub not-refused : {r : ReadStimulus} {ground : Ground} → r ≡ readFrom bad x → r ≡ Refused ground → ⊥
-  not-refused e told = let q = sym told ∙ e ∙ read-is in let z : _≡_ {A = ℕ} 0 1 = cc in omega arith
+-- where ground 14 does not hold, the stimulus that was read is the one that stands there
+pub stimulus-told : (x : Stimulus) (read : ReadStimulus) (s : List ℕ) (at place : ℕ) → x ≡ stimulusIn read
+    → read ≡ readStimulus s at → at ≡ place → badStimulus s place ≡ false → x ≡ stimulusAt s place
+stimulus-told x read s at place told is here good = rw (told, is, here, good)

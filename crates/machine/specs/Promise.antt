@@ -1,13 +1,14 @@
 -- The bench call: what it asks, and what values an accepted list leaves. Its promise is that of every call on a table.
 -- Assumes nothing.
-use mathlib.Core.Path.{_≡_}
+use mathlib.Core.Path.{_≡_, refl}
 use mathlib.Core.List.{List, [], _∷_, _++_}
 use Prim.Native.Nat.{ℕ}
 use lib.ListN.{drop}
 use Rattle.net.specs.Net.{listBelow}
+use Rattle.circuit.specs.Checks.{checkRecords}
 use Rattle.circuit.specs.Machine.{machine}
 use Rattle.circuit.specs.Stimuli.{checkStimuli, stimuli}
-use Rattle.call.specs.Call.{Lent, Left, Answer, accepted, refused, Call, outputOf, size, circuitOf, Promises}
+use Rattle.call.specs.Call.{Lent, Left, Answer, accepted, refused, Call, outputOf, size, circuitOf, Promises, foundOf}
 use Rattle.machine.specs.declared.Benched.{Benched}
 use Rattle.machine.specs.declared.Benched.the-variants.{Accepted, Refused}
 
@@ -39,3 +40,9 @@ answerOf (Refused g place) = refused g place
 -- the promise: what holds of the buffers and the answer
 abbrev pub Benches : List ℕ → Lent → Left → Benched → Type 0
 Benches s l e r = Promises (benching s) l e (answerOf r)
+
+-- what it asks, computed: of a table of one record one number and four of scratch, and one less of either is refused
+pub asks-hold : (foundOf (benching []) 0 4 ∷ foundOf (benching []) 1 3 ∷ foundOf (benching []) 1 4 ∷ [])
+    ≡ (3 ∷ 0 ∷ []) ∷ (4 ∷ 0 ∷ []) ∷ [] ∷ []
+unfolding checkRecords
+asks-hold = refl

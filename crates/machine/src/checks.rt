@@ -23,25 +23,32 @@ use circuit::stimulus::ReadStimulus;
 use circuit::table::record_at;
 use net::Stimulus;
 
+// Whether an input is fixed to another number than x.
+fn fixed_to_other(kind: InputKind, x: u32) -> bool
+    ensures { λ r. ⌜ r ≡ fixedToOther (some kind) x ⌝ }
+{
+    match kind {
+        InputKind::Fixed(n) => x != n,
+        InputKind::Free => false,
+        InputKind::Secret => false,
+    }
+}
+
 // Grounds 16 and 17 of stimulus i, which pokes an input with x.
 fn check_value(w: u8, kind: InputKind, x: u32, i: usize) -> Check
     requires { ⌜ w ≤ 32 ⌝ }
     ensures { λ r. ⌜ r ≡ refuse ground.PokeTooWide i (leb (2 ^ w) x)
         (refuse ground.FixedInput i (fixedToOther (some kind) x) check.Passed) ⌝ }
 {
-    if too_wide(x, w) {
+    let unfit = too_wide(x, w);
+    let tied = fixed_to_other(kind, x);
+    if unfit {
         return Check::Refused(Ground::PokeTooWide, i);
     }
-    match kind {
-        InputKind::Fixed(n) => {
-            if x != n {
-                return Check::Refused(Ground::FixedInput, i);
-            }
-            Check::Passed
-        }
-        InputKind::Free => Check::Passed,
-        InputKind::Secret => Check::Passed,
+    if tied {
+        return Check::Refused(Ground::FixedInput, i);
     }
+    Check::Passed
 }
 
 // Grounds 15 to 17 of stimulus i, which pokes variable v with x.
@@ -82,13 +89,16 @@ fn check_each(t: &[u8], n: usize, s: &[u8], count: usize) -> Check
     requires { ⌜ count * 8 ≤ length (now s) ⌝ }
     ensures { λ r. ⌜ r ≡ checkStimuliFrom (circuit (now (t .entry)) n) (now (s .entry)) count 0 ⌝ }
 {
+    let mut at: usize = 0;
     let mut i: usize = 0;
     while i < count {
-        let read = read_stimulus(s, i * 8);
+        let next = read_stimulus(s, at);
+        let read = next.read;
         let checked = check_stimulus(t, n, read, i);
         let Check::Passed = checked else {
             return checked;
         };
+        at = next.at;
         i += 1;
     }
     Check::Passed

@@ -1,18 +1,23 @@
 // Stimuli read one record after another, by a reader that holds the list's bytes and the place of the next record. Each
-// function over it takes it apart and calls the reading of one record, which is covered; `read_stimulus` takes plain
-// parameters, so that who calls it needs no walk by hand.
+// function over it takes it apart and calls the reading of one record, which is covered; `read_stimulus` takes and
+// gives what is plain, so that who calls it needs no walk by hand, and goes on from the place that the reader came to.
 ghost use mathlib.Core.Path.{_≡_};
-ghost use mathlib.Core.Bool.{false};
 ghost use Prim.Native.Nat.{_+_, _≤_};
 ghost use lib.ListN.{length};
-ghost use Rattle.circuit.specs.Stimuli.{badStimulus, stimulusAt, readStimulus};
-ghost use Rattle.machine.specs.Reading.{moved};
+ghost use Rattle.circuit.specs.Stimuli.{readStimulus};
+ghost use Rattle.machine.specs.Reading.{moved, stimulusIn};
 use crate::stimulus::decode;
 use circuit::stimulus::ReadStimulus;
 use net::Stimulus;
 
 pub struct StimulusReader<'a> {
     pub stimuli: &'a [u8],
+    pub at: usize,
+}
+
+// What a record reads as, and the place of the one behind it.
+pub struct ReadNext {
+    pub read: ReadStimulus,
     pub at: usize,
 }
 
@@ -34,21 +39,23 @@ fn next<'s, 'a>(r: &'s mut StimulusReader<'a>) -> ReadStimulus
     decode(r.stimuli, at)
 }
 
-// The stimulus of the 8 bytes from a place on, or ground 14.
-pub fn read_stimulus(s: &[u8], at: usize) -> ReadStimulus
+// The stimulus of the 8 bytes from a place on, or ground 14, and the place of the next one.
+pub fn read_stimulus(s: &[u8], at: usize) -> ReadNext
     requires { ⌜ at + 8 ≤ length (now s) ⌝ }
-    ensures { λ r. ⌜ r ≡ readStimulus (now (s .entry)) at ⌝ }
+    ensures { λ r. ⌜ (r .read ≡ readStimulus (now (s .entry)) at) × (r .at ≡ at + 8) ⌝ }
 {
     let mut reader = reader_at(s, at);
-    next(&mut reader)
+    let read = next(&mut reader);
+    ReadNext {
+        read,
+        at: reader.at,
+    }
 }
 
-// The stimulus of the 8 bytes from a place on, where ground 14 does not hold.
-pub fn stimulus_at(s: &[u8], at: usize) -> Stimulus
-    requires { ⌜ (at + 8 ≤ length (now s)) × (badStimulus (now s) at ≡ false) ⌝ }
-    ensures { λ r. ⌜ r ≡ stimulusAt (now (s .entry)) at ⌝ }
+// The stimulus that was read.
+pub fn stimulus_in(read: ReadStimulus) -> Stimulus
+    ensures { λ r. ⌜ r ≡ stimulusIn read ⌝ }
 {
-    let read = read_stimulus(s, at);
     match read {
         ReadStimulus::Read(stimulus) => stimulus,
         ReadStimulus::Refused(_) => Stimulus::Tick,

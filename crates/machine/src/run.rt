@@ -13,7 +13,8 @@ ghost use Rattle.circuit.specs.Stimuli.{stimuli, checkStimulus, checkStimuli};
 ghost use Rattle.engine.specs.Ready.{Wired, Ready};
 ghost use Rattle.machine.specs.Promise.{room};
 use crate::pass::settle;
-use crate::reader::stimulus_at;
+use crate::reader::read_stimulus;
+use crate::reader::stimulus_in;
 use crate::tick::tick;
 use circuit::number::wide;
 use net::Stimulus;
@@ -71,17 +72,13 @@ pub fn run(
         (now (values .entry)) (now (values .exit)) ⌝ }
 {
     let count = s.len() / 8;
+    let mut at: usize = 0;
     let mut i: usize = 0;
     while i < count {
-        act(
-            t,
-            n,
-            scratch,
-            wires,
-            registers,
-            values,
-            stimulus_at(s, i * 8),
-        );
+        let next = read_stimulus(s, at);
+        let read = next.read;
+        act(t, n, scratch, wires, registers, values, stimulus_in(read));
+        at = next.at;
         i += 1;
     }
 }

@@ -41,12 +41,12 @@ fn commit(t: &[u8], n: usize, scratch: &[u16], wires: usize, registers: usize, v
         (definition.values (circuit (now (t .entry)) n)))
         (now (values .entry)) (now (values .exit)) ⌝ }
 {
-    let mut j: usize = 0;
-    while j < registers {
-        let v = wide(scratch[wires + j]);
-        let x = load(scratch, n + n + j * 2);
+    let mut k: usize = 0;
+    while k < registers {
+        let v = wide(scratch[wires + k]);
+        let x = load(scratch, n + n + k * 2);
         values[v] = x;
-        j += 1;
+        k += 1;
     }
 }
 

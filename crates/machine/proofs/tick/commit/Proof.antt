@@ -1,4 +1,4 @@
--- The loop's invariant: the first j registers have their staged values. The measure is what is left of them.
+-- The loop's invariant: the first k registers have their staged values. The measure is what is left of them.
 -- Assumes nothing.
 use mathlib.Core.Path.{sym, ap, _∙_}
 use Prim.Native.Nat.{_-_, _≤_}
@@ -18,11 +18,11 @@ use Rattle.machine.proofs.tick.commit.Statement.{statement}
 use Rattle.machine.proofs.tick.commit.Tie as tie
 
 abbrev Inv-loop : tie.InvT-loop
-Inv-loop t n scratch wires registers values₀ j₀ values j =
-    (j ≤ registers) × Moves numbers n (together (circuit t n) (machine.values (circuit t n)) j) values₀ values
+Inv-loop t n scratch wires registers values₀ k₀ values k =
+    (k ≤ registers) × Moves numbers n (together (circuit t n) (machine.values (circuit t n)) k) values₀ values
 
 abbrev μ-loop : tie.MeasureT-loop
-μ-loop t n scratch wires registers values₀ j₀ values j = registers - j
+μ-loop t n scratch wires registers values₀ k₀ values k = registers - k
 
 loop-holds : tie.Need-loop-holds Inv-loop μ-loop
 loop-holds c =
@@ -66,8 +66,8 @@ slice-write-values c =
       r .wired .store .lent,
     )
 
-add-j : tie.Need-add-j Inv-loop μ-loop
-add-j c = omega arith
+add-k : tie.Need-add-k Inv-loop μ-loop
+add-k c = omega arith
 
 loop-less : tie.Need-loop-less Inv-loop μ-loop
 loop-less c = omega arith
@@ -84,7 +84,7 @@ loop-again c =
       omega arith,
       one-committed numbers-laws (lawful table) r (l .loop .inv .1) h e
           (gives-value table below
-          (c .load .ensures ∙ staged .cell (l .loop .j) h .reads
+          (c .load .ensures ∙ staged .cell (l .loop .k) h .reads
           ∙ ap (machine.values (circuit (x .t .now) (x .n)) (state (x .values .now))) (sym (register-at r h e))))
           (sym (mul-one _))
           (wrote-number _ _ _ (omega (arith, below, l .loop .inv .1 .kept .long, r .wired .store .lent))),
@@ -116,7 +116,7 @@ commit-spec =
     load-requires
     mul-values
     slice-write-values
-    add-j
+    add-k
     loop-less
     loop-again
     same-length
