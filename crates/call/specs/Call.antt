@@ -13,7 +13,6 @@ use Rattle.circuit.specs.declared.refusal.Check.the-variants.{Passed}
 use Rattle.circuit.specs.Refusal.{groundNumber, Finds}
 use Rattle.circuit.specs.Circuit.{Circuit, circuit, graph, NoLoop}
 use Rattle.circuit.specs.Checks.{Asked, checkCall}
-use Rattle.circuit.specs.Faults.{constant, told}
 
 -- what is lent to a call on a table: the table's bytes, its outputs in order and its scratch, as they are at entry
 pub record Lent : Type 0 where
@@ -127,8 +126,3 @@ Promises call l e (accepted k) = AcceptedWith call l e k
 Promises call l e (refused g place) =
     TurnedDown call l e (groundNumber g) place
     ⊎ (((groundNumber g ≡ 11) × LoopShown call l e place) ⊎ RefusedLater call l e (groundNumber g) place)
-
--- what the call finds of a table of one record, with so much lent of its output and of its scratch: nothing, or the
--- number of a ground and the place
-abbrev pub foundOf : Call → ℕ → ℕ → List ℕ
-foundOf call output scratch = told (checked call (lent constant (replicate output 0) (replicate scratch 0)))

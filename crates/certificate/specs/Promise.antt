@@ -12,7 +12,8 @@ use Rattle.circuit.specs.Checks.{checkRecords}
 use Rattle.fact.specs.Fact.{factBytes, factAt}
 use Rattle.fact.specs.Rule.{rule}
 use Rattle.fact.specs.Certificate.{LeastStore, initialStore, registers}
-use Rattle.call.specs.Call.{Lent, Left, Answer, accepted, refused, Call, outputOf, size, circuitOf, Promises, foundOf}
+use Rattle.call.specs.Call.{Lent, Left, Answer, accepted, refused, Call, outputOf, size, circuitOf, Promises}
+use Rattle.call.specs.Asks.{foundOf}
 use Rattle.certificate.specs.declared.Certified.{Certified}
 use Rattle.certificate.specs.declared.Certified.the-variants.{Accepted, Refused}
 

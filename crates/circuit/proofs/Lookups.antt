@@ -4,7 +4,9 @@ use mathlib.Core.Path.{_≡_, refl, sym, ap, _∙_}
 use mathlib.Core.List.{List, [], _∷_, map}
 use Prim.Native.Nat.{ℕ, zero, suc, _≤_, _<_, zero-le}
 use native.Mathlib.Omega.{arith}
-use lib.ListN.{length, getD}
+use lib.ListN.{length, getD, List·getD-map}
+use Rattle.net.specs.Net.{listBelow}
+use Rattle.net.proofs.Lists.{getD-listBelow}
 use Rattle.circuit.specs.declared.operator.Operator.{Operator}
 use Rattle.circuit.specs.declared.operator.Operator.the-variants.{ShiftRight}
 use Rattle.circuit.specs.declared.operator.ReadOperator.the-variants as read-operator
@@ -29,6 +31,14 @@ module _ {A B : Type 0} (is : A → B) (none : B) (same : (x y : A) → is x ≡
   lookup-none [] i d e = (zero-le, refl)
   lookup-none (y ∷ ys) zero d e = absurd (differ y e)
   lookup-none (y ∷ ys) (suc i) d e = let (h, q) = lookup-none ys i d e in (omega arith, q)
+
+-- what stands at a place of a list in the order of its members' numbers has that number
+pub in-order : {A : Type 0} (number : A → ℕ) (l : List A) (i : ℕ) (d : A)
+    → map number l ≡ listBelow (λ k. k) (length l) → i < length l → number (getD l i d) ≡ i
+in-order number l i d e h =
+    sym (List·getD-map number l i d)
+    ∙ ap (λ (ns : List ℕ). getD ns i (number d)) e
+    ∙ getD-listBelow (λ k. k) (length l) i (number d) h
 
 -- ---- operators
 
@@ -74,16 +84,9 @@ module _ (byte : ℕ) where
   pub kind-none : readKind byte ≡ read-kind.None → 5 ≤ byte
   kind-none e = lookup-none read-kind.Is read-kind.None kind-same kind-differ kinds byte kind.Register e .0
 
-kind-at : (byte : ℕ) → byte < 5 → kindNumber (getD kinds byte kind.Register) ≡ byte
-kind-at zero h = refl
-kind-at (suc zero) h = refl
-kind-at (suc (suc zero)) h = refl
-kind-at (suc (suc (suc zero))) h = refl
-kind-at (suc (suc (suc (suc zero)))) h = refl
-kind-at (suc (suc (suc (suc (suc byte))))) h = absurd (omega arith)
-
 pub kind-is : (byte : ℕ) (k : Kind) → readKind byte ≡ read-kind.Is k → (byte ≤ 4) × (kindNumber k ≡ byte)
+unfolding listBelow
 kind-is byte k e =
     let (h, q) =
     lookup-is read-kind.Is read-kind.None (kind-same byte) (kind-differ byte) kinds byte kind.Register k e in
-    (omega arith, ap kindNumber (sym q) ∙ kind-at byte h)
+    (omega arith, ap kindNumber (sym q) ∙ in-order kindNumber kinds byte kind.Register refl h)

@@ -12,8 +12,8 @@ use lib.ListN.{getD}
 use Rattle.net.specs.declared.Stimulus.{Stimulus}
 use Rattle.net.specs.declared.Stimulus.the-variants.{Poke, Tick}
 use Rattle.net.specs.Tests.{every}
-use Rattle.circuit.specs.declared.operator.Operator.{Operator as Op}
-use Rattle.circuit.specs.declared.operator.Operator.the-variants.{Add, Sub, And, Or, Xor, Equal, Less, ShiftLeft, ShiftRight}
+use Rattle.net.specs.Net.{listBelow}
+use Rattle.circuit.specs.declared.operator.Operator.the-variants.{ShiftRight}
 use Rattle.circuit.specs.declared.operator.ReadOperator.the-variants as read-operator
 use Rattle.circuit.specs.declared.record.Fields.{Fields}
 use Rattle.circuit.specs.declared.record.Kind.{Kind}
@@ -27,10 +27,11 @@ use Rattle.circuit.specs.declared.record.Record.the-variants.{Input, Con
 use Rattle.circuit.specs.declared.record.ReadRecord.the-variants as read-record
 use Rattle.circuit.specs.declared.stimulus.ReadStimulus.the-variants as read-stimulus
 use Rattle.circuit.specs.Number.{u16At, u32At}
-use Rattle.circuit.specs.Operator.{operatorCode, operatorOf, readOperator}
+use Rattle.circuit.specs.Operator.{operatorCode, operators, operatorOf, readOperator}
 use Rattle.circuit.specs.Reading.{kindNumber, readKind, inputCode, inputKindOf, readInput, decode, encode, unused, readRecord}
-use Rattle.circuit.specs.Stimuli.{stimulusKind, stimulusVariable, stimulusValue, stimulusOf, readFrom, readStimulus}
-use Rattle.circuit.proofs.Lookups.{kind-is, operator-is, input-is}
+use Rattle.circuit.specs.Stimuli.{stimulusKind, stimulusVariable, stimulusValue, stimulusOf, badNumbers, readFrom, readStimulus}
+use Rattle.circuit.proofs.Lookups.{in-order, kind-is, operator-is, input-is}
+use Rattle.circuit.proofs.Operators.{code-reads}
 use Rattle.circuit.proofs.Decoding.{by-kind, decode-input, decode-constant, decode-operator, decode-multiplexer, decode-register}
 use Rattle.circuit.proofs.Stimuli.{both-true}
 use Rattle.circuit.proofs.Records.{Valid, decode-encode, both-false, read-valid, accepted}
@@ -52,33 +53,14 @@ number-kind kind.Register = refl
 pub kind-read : ReadBy readKind read-kind.Is kindNumber
 kind-read byte k = (λ e. sym (kind-is byte k e .1), λ e. rw e (number-kind k))
 
-code-operator : (op : Op) → readOperator (operatorCode op) ≡ read-operator.Is op
-code-operator Add = refl
-code-operator Sub = refl
-code-operator And = refl
-code-operator Or = refl
-code-operator Xor = refl
-code-operator Equal = refl
-code-operator Less = refl
-code-operator ShiftLeft = refl
-code-operator ShiftRight = refl
-
 operator-at : (code : ℕ) → code < 9 → operatorCode (operatorOf code) ≡ code
-operator-at zero h = refl
-operator-at (suc zero) h = refl
-operator-at (suc (suc zero)) h = refl
-operator-at (suc (suc (suc zero))) h = refl
-operator-at (suc (suc (suc (suc zero)))) h = refl
-operator-at (suc (suc (suc (suc (suc zero))))) h = refl
-operator-at (suc (suc (suc (suc (suc (suc zero)))))) h = refl
-operator-at (suc (suc (suc (suc (suc (suc (suc zero))))))) h = refl
-operator-at (suc (suc (suc (suc (suc (suc (suc (suc zero)))))))) h = refl
-operator-at (suc (suc (suc (suc (suc (suc (suc (suc (suc code))))))))) h = absurd (omega arith)
+unfolding listBelow
+operator-at code h = in-order operatorCode operators code ShiftRight refl h
 
 pub operator-read : ReadBy readOperator read-operator.Is operatorCode
 operator-read code op = (
   λ e. let (h, is) = operator-is code op e in sym (operator-at code h) ∙ ap operatorCode is,
-  λ e. rw e (code-operator op),
+  λ e. rw e (code-reads op),
 )
 
 -- what a kind of input says of the value: a fixed one carries it
@@ -221,8 +203,7 @@ module _ (byte1 v y : ℕ) (x : Stimulus) where
   -- a stimulus of these numbers is read, of which ground 14 does not hold
   abbrev ReadOf : ℕ → Type 0
   ReadOf kind =
-      readFrom (ltb 1 kind || not (eqb byte1 0) || (eqb kind 1 && not (eqb v 0 && eqb y 0))) (stimulusOf kind v y)
-      ≡ read-stimulus.Read x
+      readFrom (badNumbers kind byte1 v y) (stimulusOf kind v y) ≡ read-stimulus.Read x
 
   abbrev NumbersOf : ℕ → Type 0
   NumbersOf kind = (kind ≡ stimulusKind x) × (byte1 ≡ 0) × (v ≡ stimulusVariable x) × (y ≡ stimulusValue x)

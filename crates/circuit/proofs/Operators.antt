@@ -6,20 +6,27 @@ use native.Mathlib.Nat.{mod-lt, mod-add-mod, add-mod-right, add-mul-mod-self-rig
 use native.Mathlib.Omega.{arith}
 use lib.Pow.{pow-pos, mod-mod-pow}
 use Rattle.circuit.specs.declared.operator.Operator.{Operator}
+use Rattle.circuit.specs.declared.operator.ReadOperator.{ReadOperator}
+use Rattle.circuit.specs.declared.operator.ReadOperator.the-variants.{Is}
 use Rattle.circuit.specs.declared.operator.Operator.the-variants.{Add, Sub, And, Or, Xor, Equal, Less, ShiftLeft, ShiftRight}
-use Rattle.circuit.specs.Operator.{operatorCode, operatorOf, apply, result, resultOfCode}
+use Rattle.circuit.specs.Operator.{operatorCode, operatorOf, readOperator, apply, result, resultOf, resultOfCode}
+use Rattle.circuit.proofs.Lookups.{operator-is}
+
+-- an operator's code reads as that operator
+pub code-reads : (op : Operator) → readOperator (operatorCode op) ≡ Is op
+code-reads Add = refl
+code-reads Sub = refl
+code-reads And = refl
+code-reads Or = refl
+code-reads Xor = refl
+code-reads Equal = refl
+code-reads Less = refl
+code-reads ShiftLeft = refl
+code-reads ShiftRight = refl
 
 -- the operator of an operator's code is that operator
 pub operator-code : (op : Operator) → operatorOf (operatorCode op) ≡ op
-operator-code Add = refl
-operator-code Sub = refl
-operator-code And = refl
-operator-code Or = refl
-operator-code Xor = refl
-operator-code Equal = refl
-operator-code Less = refl
-operator-code ShiftLeft = refl
-operator-code ShiftRight = refl
+operator-code op = operator-is (operatorCode op) op (code-reads op) .1
 
 -- every result is below 2^w
 pub result-below : (op : Operator) (w a b : ℕ) → result op w a b < 2 ^ w
@@ -58,15 +65,7 @@ sub-unique w a b r e =
 
 -- evaluating by an operator's code gives the operator's result
 pub result-of-code : (op : Operator) (w a b : ℕ) → resultOfCode (operatorCode op) w a b ≡ result op w a b
-result-of-code Add w a b = refl
-result-of-code Sub w a b = refl
-result-of-code And w a b = refl
-result-of-code Or w a b = refl
-result-of-code Xor w a b = refl
-result-of-code Equal w a b = refl
-result-of-code Less w a b = refl
-result-of-code ShiftLeft w a b = refl
-result-of-code ShiftRight w a b = refl
+result-of-code op w a b = ap (λ (r : ReadOperator). resultOf r w a b) (code-reads op)
 
 -- ---- what 32 bits hold, at every width
 

@@ -70,7 +70,7 @@ read-valid f n r e =
     let w = both-false (eqb (f .width) 0) (ltb 32 (f .width)) (p6 .0) in (
       record {
         kind = ltb-false 4 (f .kind) (p5 .0);
-        width-least = let some = eqb-false (f .width) 0 (w .0) in positive (f .width) some;
+        width-least = positive (f .width) (eqb-false (f .width) 0 (w .0));
         width-most = ltb-false 32 (f .width) (w .1);
         code = leb-false (codes (f .kind)) (f .code) (p7 .0);
         zeros = not-false _ (p8 .0);

@@ -43,12 +43,13 @@ stimulusOf kind v x = getD (Poke v x ∷ []) kind Tick
 abbrev pub stimulusAt : List ℕ → ℕ → Stimulus
 stimulusAt s at = stimulusOf (getD s at 0) (u16At s (at + 2)) (u32At s (at + 4))
 
--- ground 14: the kind, byte 1, and a tick's variable and value
+-- ground 14, of a stimulus's numbers: the kind, byte 1, and a tick's variable and value
+abbrev pub badNumbers : ℕ → ℕ → ℕ → ℕ → Bool
+badNumbers kind byte1 v x = ltb 1 kind || not (eqb byte1 0) || (eqb kind 1 && not (eqb v 0 && eqb x 0))
+
+-- and of the 8 bytes from a place on
 abbrev pub badStimulus : List ℕ → ℕ → Bool
-badStimulus s at =
-    ltb 1 (getD s at 0)
-    || not (eqb (getD s (at + 1) 0) 0)
-    || (eqb (getD s at 0) 1 && not (eqb (u16At s (at + 2)) 0 && eqb (u32At s (at + 4)) 0))
+badStimulus s at = badNumbers (getD s at 0) (getD s (at + 1) 0) (u16At s (at + 2)) (u32At s (at + 4))
 
 -- the stimulus, or ground 14 where the test holds
 abbrev pub readFrom : Bool → Stimulus → ReadStimulus

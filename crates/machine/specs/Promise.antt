@@ -8,7 +8,8 @@ use Rattle.net.specs.Net.{listBelow}
 use Rattle.circuit.specs.Checks.{checkRecords}
 use Rattle.circuit.specs.Machine.{machine}
 use Rattle.circuit.specs.Stimuli.{checkStimuli, stimuli}
-use Rattle.call.specs.Call.{Lent, Left, Answer, accepted, refused, Call, outputOf, size, circuitOf, Promises, foundOf}
+use Rattle.call.specs.Call.{Lent, Left, Answer, accepted, refused, Call, outputOf, size, circuitOf, Promises}
+use Rattle.call.specs.Asks.{foundOf}
 use Rattle.machine.specs.declared.Benched.{Benched}
 use Rattle.machine.specs.declared.Benched.the-variants.{Accepted, Refused}
 

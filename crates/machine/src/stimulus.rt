@@ -1,10 +1,8 @@
 // A stimulus from its 8 bytes: what it reads as, or ground 14.
 ghost use mathlib.Core.Path.{_≡_};
-ghost use mathlib.Core.Bool.{not, _&&_, _||_};
 ghost use Prim.Native.Nat.{_+_, _≤_};
-ghost use lib.Dec.{eqb, ltb};
 ghost use lib.ListN.{length};
-ghost use Rattle.circuit.specs.Stimuli.{stimulusOf, readStimulus};
+ghost use Rattle.circuit.specs.Stimuli.{stimulusOf, badNumbers, readStimulus};
 use circuit::number::u16_at;
 use circuit::number::u32_at;
 use circuit::refusal::Ground;
@@ -13,7 +11,7 @@ use net::Stimulus;
 
 // Ground 14: the kind, byte 1, and a tick's variable and value.
 fn bad_stimulus(kind: u8, byte1: u8, v: u16, x: u32) -> bool
-    ensures { λ r. ⌜ r ≡ (ltb 1 kind || not (eqb byte1 0) || (eqb kind 1 && not (eqb v 0 && eqb x 0))) ⌝ }
+    ensures { λ r. ⌜ r ≡ badNumbers kind byte1 v x ⌝ }
 {
     if 1 < kind {
         return true;
