@@ -1,14 +1,16 @@
-//! The reference model of document 01, written from its definitions and not for speed.
+//! The reference model of document 01 and of request S-1, the price list, written from their definitions and
+//! not for speed.
 //!
 //! In the document's order: `record` (kinds, operators, records), `fields` (the bytes of a record and their
 //! reading), `wires` (uses, loops, settling), `fact` (facts, rules, closed stores), `certify` (rounds, the
 //! certificate and its call), `machine` (power-on, poke, tick), `bench` (stimuli and the bench call) and
-//! `table` (the grounds that both calls share).
+//! `table` (the grounds that these calls share). From the request: `bill` (the bill of an order).
 //!
 //! The benchmark's variants read and evaluate records by what is here too. What they call again and again is
 //! always inlined, so that no call between the crates is timed.
 
 mod bench;
+mod bill;
 mod certify;
 mod fact;
 mod fields;
@@ -18,6 +20,7 @@ mod table;
 mod wires;
 
 pub use bench::{bench, run, split_stimuli, Stimulus};
+pub use bill::bill;
 pub use certify::{before_any_round, certify, round, rounds};
 pub use fact::{closed, rule, Fact};
 pub use fields::Fields;
@@ -29,9 +32,9 @@ pub use wires::{find_loop, settle, together};
 /// A refusal: the number of the ground on which work is turned down, and its place.
 #[derive(Debug, Clone, Copy, PartialEq, Eq)]
 pub struct Refusal {
-    /// The ground, numbered as in document 01.
+    /// The ground, numbered as in document 01 and the request.
     pub ground: u32,
-    /// The record for 5 to 10, the loop's length for 11, the stimulus for 14 to 17, else 0.
+    /// The record for 5 to 10, the loop's length for 11, the stimulus for 14 to 17, the size for 19, else 0.
     pub place: usize,
 }
 

@@ -16,6 +16,8 @@ use Rattle.call.proofs.Parts.{table-checked}
 use Rattle.call.proofs.Answers.{row-most, refusal-holds}
 use Rattle.certificate.specs.Promise.{certifying}
 use Rattle.machine.specs.Promise.{benching}
+use Rattle.bill.specs.Promise.{Bills}
+use Rattle.bill.proofs.Promise.{accepted-small, refused-small}
 use Rattle.capi.specs.Packed.{packed, Low}
 
 -- two answers with the same number are the same
@@ -52,3 +54,7 @@ benched-low s l e =
     answer-low (benching s) l e (λ k p. omega (arith, p .accepts .no-number))
     (refusals-weaken (λ g place. (12 ≤ groundNumber g) × (place ≤ 4096)) (λ g place. place < 2 ^ 32)
     (checkStimuli (circuitOf l) s) (λ g place h. omega (arith, h .1)) (stimuli-refusals (circuitOf l) s))
+
+pub billed-low : (sizes entry exit : List ℕ) (a : Answer) → Bills sizes entry exit a → Low a
+billed-low sizes entry exit (accepted k) p = accepted-small p .2
+billed-low sizes entry exit (refused g place) p = omega (arith, refused-small p .1)

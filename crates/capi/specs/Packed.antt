@@ -16,9 +16,13 @@ abbrev pub Low : Answer → Type 0
 Low (accepted k) = k < 2 ^ 32
 Low (refused g place) = place < 2 ^ 32
 
--- a call's promise of the answer with this number
-pub record PromisesPacked (call : Call) (l : Lent) (e : Left) (r : ℕ) : Type 0 where
+-- what is promised of an answer, of the one answer with this number
+pub record PackedOf (Promised : Answer → Type 0) (r : ℕ) : Type 0 where
   pub answer : Answer
   pub low : Low answer
   pub is : r ≡ packed answer
-  pub promises : Promises call l e answer
+  pub promises : Promised answer
+
+-- a call's promise of the answer with this number
+abbrev pub PromisesPacked : Call → Lent → Left → ℕ → Type 0
+PromisesPacked call l e r = PackedOf (Promises call l e) r

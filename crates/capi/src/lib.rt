@@ -4,7 +4,10 @@ ghost use Prim.Native.Nat.{_^_, _<_};
 ghost use Rattle.call.specs.Call.{refused, lent, left};
 ghost use Rattle.certificate.specs.Promise as certified;
 ghost use Rattle.machine.specs.Promise as benched;
-ghost use Rattle.capi.specs.Packed.{packed, Low, PromisesPacked};
+ghost use Rattle.bill.specs.Promise as billed;
+ghost use Rattle.capi.specs.Packed.{packed, Low, PackedOf, PromisesPacked};
+use bill::Billed;
+use bill::bill;
 use certificate::Certified;
 use certificate::certify;
 use circuit::refusal::Ground;
@@ -42,6 +45,17 @@ fn pack_benched(answer: Benched) -> u64
     }
 }
 
+// A bill's answer as one number.
+fn pack_billed(answer: Billed) -> u64
+    requires { ⌜ Low (billed.answerOf answer) ⌝ }
+    ensures { λ r. ⌜ r ≡ packed (billed.answerOf answer) ⌝ }
+{
+    match answer {
+        Billed::Accepted(cents) => cents as u64,
+        Billed::Refused(ground, place) => pack_refusal(ground, place),
+    }
+}
+
 // The certifying call: the number of rounds, or ground * 2^32 + place.
 #[no_mangle]
 pub extern "C" fn lambdac_certify(table: &[u8], certificate: &mut [u8], scratch: &mut [u16]) -> u64
@@ -65,4 +79,13 @@ pub extern "C" fn lambdac_bench(
         (left (now (values .exit)) (now (scratch .exit))) r ⌝ }
 {
     pack_benched(bench(table, stimuli, values, scratch))
+}
+
+// The bill of an order: its cents, or ground * 2^32 + place.
+#[no_mangle]
+pub extern "C" fn lambdac_bill(sizes: &[u32], shares: &mut [u32]) -> u64
+    ensures { λ r. ⌜ PackedOf
+        (billed.Bills (now (sizes .entry)) (now (shares .entry)) (now (shares .exit))) r ⌝ }
+{
+    pack_billed(bill(sizes, shares))
 }

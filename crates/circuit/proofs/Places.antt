@@ -13,7 +13,7 @@ use Rattle.net.specs.Tests.{every}
 use Rattle.net.specs.declared.Stimulus.{Stimulus}
 use Rattle.net.specs.declared.Stimulus.the-variants.{Poke, Tick}
 use Rattle.circuit.specs.declared.refusal.Ground.{Ground}
-use Rattle.circuit.specs.declared.refusal.Ground.the-variants.{TableTooLong, TableNotWhole, OutputShort, ScratchShort, UnknownKind, BadWidth, UnknownCode, UnusedNotZero, NoSuchVariable, ValueTooWide, Loop, StimuliNotWhole, TooManyStimuli, BadStimulus, NotAnInput, PokeTooWide, FixedInput}
+use Rattle.circuit.specs.declared.refusal.Ground.the-variants.{TableTooLong, TableNotWhole, OutputShort, ScratchShort, UnknownKind, BadWidth, UnknownCode, UnusedNotZero, NoSuchVariable, ValueTooWide, Loop, StimuliNotWhole, TooManyStimuli, BadStimulus, NotAnInput, PokeTooWide, FixedInput, TooManySizes, SizeTooLarge}
 use Rattle.circuit.specs.declared.refusal.Check.{Check}
 use Rattle.circuit.specs.declared.refusal.Check.the-variants as check
 use Rattle.circuit.specs.declared.record.Fields.{Fields}
@@ -48,10 +48,12 @@ grounds =
     ∷ NotAnInput
     ∷ PokeTooWide
     ∷ FixedInput
+    ∷ TooManySizes
+    ∷ SizeTooLarge
     ∷ []
 
 abbrev numbered : ℕ → Ground
-numbered number = getD grounds (number - 1) FixedInput
+numbered number = getD grounds (number - 1) SizeTooLarge
 
 -- a ground has its number's place among them
 ground-number : (ground : Ground)
@@ -73,6 +75,8 @@ ground-number BadStimulus = (refl, omega arith, omega arith)
 ground-number NotAnInput = (refl, omega arith, omega arith)
 ground-number PokeTooWide = (refl, omega arith, omega arith)
 ground-number FixedInput = (refl, omega arith, omega arith)
+ground-number TooManySizes = (refl, omega arith, omega arith)
+ground-number SizeTooLarge = (refl, omega arith, omega arith)
 
 pub ground-range : (ground : Ground) → (1 ≤ groundNumber ground) × (groundNumber ground ≤ 99)
 ground-range ground = let n = ground-number ground in (n .1, n .2)
@@ -110,11 +114,11 @@ refusals-weaken P Q (check.Refused ground place) w h = w ground place h
 
 module _ (P : Ground → ℕ → Type 0) where
   -- the first refusal of two checks is that of one of them, of the second only where the first passes
-  then-refusals : (a b : Check) → Refusals P a → (a ≡ check.Passed → Refusals P b) → Refusals P (a then b)
+  pub then-refusals : (a b : Check) → Refusals P a → (a ≡ check.Passed → Refusals P b) → Refusals P (a then b)
   then-refusals check.Passed b h k = k refl
   then-refusals (check.Refused ground place) b h k = h
 
-  refuse-refusals : (ground : Ground) (place : ℕ) (b : Bool) (next : Check) → P ground place
+  pub refuse-refusals : (ground : Ground) (place : ℕ) (b : Bool) (next : Check) → P ground place
       → (b ≡ false → Refusals P next) → Refusals P (refuse ground place b next)
   refuse-refusals ground place true next h k = h
   refuse-refusals ground place false next h k = k refl

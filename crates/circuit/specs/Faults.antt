@@ -164,7 +164,7 @@ abbrev pub with : List Fault → Given
 with [] = good
 with (f ∷ fs) = f .made (with fs)
 
--- what a check finds, by document 01's number, and the place; nothing where it passes
+-- what a check finds, by the ground's number, and the place; nothing where it passes
 abbrev pub told : Check → List ℕ
 told Passed = []
 told (Refused ground place) = groundNumber ground ∷ place ∷ []

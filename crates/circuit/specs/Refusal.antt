@@ -1,14 +1,14 @@
--- Document 01's grounds for turning work down: their numbers, and how checks are put in order. A refusal has a place.
+-- The grounds for turning work down: their numbers, and how checks are put in order. A refusal has a place.
 -- Assumes nothing.
 use mathlib.Core.Path.{_≡_}
 use mathlib.Core.Bool.{Bool, true, false}
 use Prim.Native.Nat.{ℕ}
 use Rattle.circuit.specs.declared.refusal.Ground.{Ground}
-use Rattle.circuit.specs.declared.refusal.Ground.the-variants.{TableTooLong, TableNotWhole, OutputShort, ScratchShort, UnknownKind, BadWidth, UnknownCode, UnusedNotZero, NoSuchVariable, ValueTooWide, Loop, StimuliNotWhole, TooManyStimuli, BadStimulus, NotAnInput, PokeTooWide, FixedInput}
+use Rattle.circuit.specs.declared.refusal.Ground.the-variants.{TableTooLong, TableNotWhole, OutputShort, ScratchShort, UnknownKind, BadWidth, UnknownCode, UnusedNotZero, NoSuchVariable, ValueTooWide, Loop, StimuliNotWhole, TooManyStimuli, BadStimulus, NotAnInput, PokeTooWide, FixedInput, TooManySizes, SizeTooLarge}
 use Rattle.circuit.specs.declared.refusal.Check.{Check}
 use Rattle.circuit.specs.declared.refusal.Check.the-variants.{Passed, Refused}
 
--- document 01's number of each ground
+-- the number of each ground: document 01's, and request S-1's of 18 and 19
 abbrev pub groundNumber : Ground → ℕ
 groundNumber TableTooLong = 1
 groundNumber TableNotWhole = 2
@@ -27,13 +27,15 @@ groundNumber BadStimulus = 14
 groundNumber NotAnInput = 15
 groundNumber PokeTooWide = 16
 groundNumber FixedInput = 17
+groundNumber TooManySizes = 18
+groundNumber SizeTooLarge = 19
 
 -- refused on a ground, at a place, where the test holds; else what is tried next
 abbrev pub refuse : Ground → ℕ → Bool → Check → Check
 refuse ground place true next = Refused ground place
 refuse ground place false next = next
 
--- a check finds a ground by document 01's number, at a place
+-- a check finds a ground by its number, at a place
 abbrev pub Finds : Check → ℕ → ℕ → Type 0
 Finds Passed number place = ⊥
 Finds (Refused ground at) number place = (groundNumber ground ≡ number) × (at ≡ place)

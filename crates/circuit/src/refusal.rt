@@ -20,6 +20,8 @@ pub enum Ground {
     NotAnInput,
     PokeTooWide,
     FixedInput,
+    TooManySizes,
+    SizeTooLarge,
 }
 
 // No ground holds, or the first that does, with its place.
@@ -28,7 +30,7 @@ pub enum Check {
     Refused(Ground, usize),
 }
 
-// Document 01's number of a ground.
+// A ground's number.
 pub fn ground_number(ground: Ground) -> u64
     ensures { λ r. ⌜ r ≡ groundNumber ground ⌝ }
 {
@@ -50,5 +52,7 @@ pub fn ground_number(ground: Ground) -> u64
         Ground::NotAnInput => 15,
         Ground::PokeTooWide => 16,
         Ground::FixedInput => 17,
+        Ground::TooManySizes => 18,
+        Ground::SizeTooLarge => 19,
     }
 }

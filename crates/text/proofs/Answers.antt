@@ -1,6 +1,7 @@
 -- What an answer shows stands in the buffers that the call leaves, and when a refusal has a second line.
 -- Assumes nothing.
 use mathlib.Core.Path.{_≡_}
+use mathlib.Core.Logic.{⊎-elim}
 use mathlib.Core.List.{List, _++_}
 use Prim.Native.Nat.{ℕ, _*_, _/_, _≤_}
 use native.Mathlib.Omega.{arith}
@@ -16,8 +17,10 @@ use Rattle.call.proofs.Parts.{table-checked, outputs-lent}
 use Rattle.call.proofs.Answers.{row-some, row-most, row-in-scratch, refusal-holds}
 use Rattle.certificate.specs.Promise as certified
 use Rattle.machine.specs.Promise as benched
+use Rattle.bill.specs.Promise.{Bills}
+use Rattle.bill.proofs.Promise.{accepted-small, refused-small}
 use Rattle.text.specs.Text.{refusalLine, loopLine, refusalText}
-use Rattle.text.specs.Prints.{ShowsRow, AnswerStands}
+use Rattle.text.specs.Prints.{ShowsRow, AnswerStands, BillStands}
 use Rattle.text.specs.declared.Report.{Report}
 use Rattle.text.specs.declared.Report.the-variants.{Bytes, Line}
 use Rattle.text.specs.Reports.{Tells, Within}
@@ -64,6 +67,13 @@ benched-stands s t values scratch values′ scratch′ long a p =
     (checkStimuli (circuitOf (lent t values scratch)) s) (λ g place h. h .0)
     (stimuli-refusals (circuitOf (lent t values scratch)) s)) benched.each a p
     (λ ok. omega (arith, outputs-lent (benched.benching s) (lent t values scratch) ok .0))
+
+pub billed-stands : (sizes shares shares′ : List ℕ) → length shares′ ≡ length shares → (a : Answer)
+    → Bills sizes shares shares′ a → BillStands a (length sizes) (length shares′)
+billed-stands sizes shares shares′ long (accepted k) p =
+    let (few, room, _) = accepted-small p in (few, omega arith)
+billed-stands sizes shares shares′ long (refused g place) p =
+    λ is. ⊎-elim (λ e. omega arith) (λ e. omega arith) (refused-small p .0)
 
 -- what is told of stands in longer buffers too, an output in its own
 pub told-within : (each : ℕ) (a : Answer) (r : Report) (n output scratch line room : ℕ) (out exit : List ℕ)

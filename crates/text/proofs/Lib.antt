@@ -2,4 +2,5 @@ pub mod Decimal
 pub mod Pieces
 pub mod Rows
 pub mod Answers
+pub mod Words
 pub mod Told

@@ -2,8 +2,7 @@
 -- Assumes nothing.
 use mathlib.Core.Path.{_≡_, refl, sym, ap, ap₂, _∙_}
 use mathlib.Core.List.{List, [], _∷_, _++_, append-assoc, append-nil}
-use Prim.Native.Nat.{ℕ, zero, suc, _+_, _-_, _*_, _/_, _%_, _<_}
-use native.Mathlib.Nat.{not-suc-le-zero}
+use Prim.Native.Nat.{ℕ, zero, suc, _+_, _/_, _%_, _<_}
 use native.Mathlib.Decide.{decLt}
 use native.Mathlib.Omega.{arith}
 use Rattle.net.proofs.Cases.{by-same}
@@ -11,9 +10,11 @@ use Rattle.circuit.specs.declared.refusal.Ground.{Ground}
 use Rattle.circuit.specs.Refusal.{groundNumber}
 use Rattle.circuit.proofs.Places.{ground-told}
 use Rattle.call.specs.Call.{Answer, accepted, refused}
-use Rattle.text.specs.Text.{digits, decimal, isRefused, rounds, refusalLine, loopLine}
-use Rattle.text.specs.Text.{pieces, refusalText, certifiedText, benchedText, answerText}
+use Rattle.text.specs.Text.{digits, decimal, isRefused, rounds, bill, refusalLine, loopLine}
+use Rattle.text.specs.Text.{pieces, refusalText, certifiedText, benchedText, billedText, answerText}
+use Rattle.text.specs.Words.{value}
 use Rattle.text.proofs.Decimal.{digits-one, digits-more}
+use Rattle.text.proofs.Words.{digits-value}
 use Rattle.text.proofs.Answers.{loop-text, other-text}
 
 -- ---- a number, up to what ends it
@@ -38,27 +39,6 @@ split d (x ∷ xs) (y ∷ ys) r r′ w w′ e =
     let rest : xs ++ (d ∷ r) ≡ ys ++ (d ∷ r′) = cc in
     let (p, q) = split d xs ys r r′ (w .1) (w′ .1) rest in
     (ap₂ (λ (z : ℕ) (zs : List ℕ). z ∷ zs) same p, q)
-
--- the number that digits stand for, behind those of a number
-value : ℕ → List ℕ → ℕ
-value n [] = n
-value n (x ∷ xs) = value (n * 10 + (x - 48)) xs
-
-value-last : (n : ℕ) (xs : List ℕ) (x : ℕ) → value n (xs ++ (x ∷ [])) ≡ value n xs * 10 + (x - 48)
-unfolding value
-value-last n [] x = refl
-value-last n (y ∷ ys) x = value-last (n * 10 + (y - 48)) ys x
-
-digits-value : (fuel n : ℕ) → n < fuel → value 0 (digits fuel n) ≡ n
-unfolding value
-digits-value zero n h = absurd (not-suc-le-zero h)
-digits-value (suc fuel) n h =
-    elim (decLt n 10) [
-      | yes l ↦ rw (digits-one fuel n l) (omega arith)
-      | no l ↦
-          rw (digits-more fuel n (omega arith), value-last 0 (digits fuel (n / 10)) (48 + n % 10))
-          (omega (arith, digits-value fuel (n / 10) (omega arith)))
-    ]
 
 digits-without : (d fuel n : ℕ) → d < 48 → Without d (digits fuel n)
 unfolding digits
@@ -147,3 +127,14 @@ benched-told values values′ n n′ a a′ s s′ none none′ =
     text-told (benchedText values n) (benchedText values′ n′) a a′ s s′
     (λ k k′ is is′ e. none k is ∙ sym (none′ k′ is′))
     (values-apart values n) (values-apart values′ n′)
+
+bill-apart : (shares : List ℕ) (n k : ℕ) (g : Ground) (place : ℕ) (r : List ℕ)
+    → billedText shares n k ≡ refusalLine g place ++ r → ⊥
+bill-apart shares n k g place r e = let z : _≡_ {A = ℕ} 98 114 = cc in omega arith
+
+pub billed-told : (shares shares′ : List ℕ) (n n′ : ℕ) (a a′ : Answer)
+    → answerText (billedText shares n) a [] ≡ answerText (billedText shares′ n′) a′ [] → a ≡ a′
+billed-told shares shares′ n n′ a a′ =
+    text-told (billedText shares n) (billedText shares′ n′) a a′ [] []
+    (λ k k′ _ _ e. decimal-told 10 k k′ _ _ (omega arith) (append-told bill _ _ (simp append-assoc at e)) .0)
+    (bill-apart shares n) (bill-apart shares′ n′)

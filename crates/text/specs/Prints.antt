@@ -7,6 +7,7 @@ use lib.ListN.{take}
 use Rattle.circuit.specs.declared.refusal.Ground.{Ground}
 use Rattle.circuit.specs.Refusal.{groundNumber}
 use Rattle.call.specs.Call.{Lent, Left, Answer, accepted, refused, Call, outputOf, size, Promises}
+use Rattle.bill.specs.Order.{mostSizes}
 use Rattle.text.specs.Text.{answerText}
 
 -- for ground 11, the row stands in the scratch and its line fits
@@ -18,10 +19,21 @@ abbrev pub AnswerStands : ℕ → Answer → ℕ → ℕ → ℕ → Type 0
 AnswerStands each (accepted k) n output scratch = (n ≤ 4096) × (n * each ≤ output)
 AnswerStands each (refused g place) n output scratch = ShowsRow g place scratch
 
--- the text of the answer of which the call's promise holds fills `out` from r on; what lies before is as it was. What
--- an accepted answer shows is made of the call's output, the number of records and the number that the answer carries.
-pub record PromisesInText (call : Call) (shown : List ℕ → ℕ → ℕ → List ℕ) (l : Lent) (e : Left) (out out-exit : List ℕ)
+-- what an order's answer shows stands in a buffer of so many shares: one a size; a refusal shows no row
+abbrev pub BillStands : Answer → ℕ → ℕ → Type 0
+BillStands (accepted k) n shares = (n ≤ mostSizes) × (n ≤ shares)
+BillStands (refused g place) n shares = groundNumber g ≡ 11 → ⊥
+
+-- the text of an answer of which something is promised fills `out` from r on; what lies before is as it was
+pub record TextOf (Promised : Answer → Type 0) (printed : Answer → List ℕ) (out out-exit : List ℕ)
     (r : ℕ) : Type 0 where
   pub answer : Answer
-  pub promises : Promises call l e answer
-  pub text : out-exit ≡ take r out ++ answerText (shown (outputOf (e .outputs)) (size l)) answer (e .scratch)
+  pub promises : Promised answer
+  pub text : out-exit ≡ take r out ++ printed answer
+
+-- the text of the answer of which the call's promise holds. What an accepted answer shows is made of the call's output,
+-- the number of records and the number that the answer carries.
+abbrev pub PromisesInText : Call → (List ℕ → ℕ → ℕ → List ℕ) → Lent → Left → List ℕ → List ℕ → ℕ → Type 0
+PromisesInText call shown l e out out-exit r =
+    TextOf (Promises call l e) (λ answer. answerText (shown (outputOf (e .outputs)) (size l)) answer (e .scratch)) out
+    out-exit r

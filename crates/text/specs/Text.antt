@@ -1,5 +1,5 @@
--- What the programs print: numbers in base ten, the lines of a refusal and of a certificate. A text is the list of its
--- bytes, in ASCII; each word below has its characters beside it.
+-- What the programs print: numbers in base ten, the lines of a refusal, of a certificate, of values and of a bill. A
+-- text is the list of its bytes, in ASCII; each word below has its characters beside it.
 -- Assumes nothing.
 use mathlib.Core.Bool.{true, false}
 use mathlib.Core.List.{List, [], _∷_, _++_}
@@ -42,6 +42,10 @@ at = 32 ∷ 97 ∷ 116 ∷ 32 ∷ []
 -- "rounds "
 abbrev pub rounds : List ℕ
 rounds = 114 ∷ 111 ∷ 117 ∷ 110 ∷ 100 ∷ 115 ∷ 32 ∷ []
+
+-- "bill "
+abbrev pub bill : List ℕ
+bill = 98 ∷ 105 ∷ 108 ∷ 108 ∷ 32 ∷ []
 
 -- " always "
 abbrev pub always : List ℕ
@@ -86,17 +90,21 @@ factLine v f = decimal v ++ (factText f ++ newline)
 abbrev pub factLines : List ℕ → ℕ → List ℕ
 factLines cells n = pieces (λ v. factLine v (factAt cells v)) n 0
 
--- a variable's line with its value
+-- a number's line with its index: a variable's value, or a size's share
 abbrev pub valueLine : ℕ → ℕ → List ℕ
 valueLine v x = decimal v ++ (space ++ (decimal x ++ newline))
 
--- the lines of n variables, from the values that a bench run writes
+-- the lines of n numbers: the values that a bench run writes, or the shares of an order
 abbrev pub valueLines : List ℕ → ℕ → List ℕ
 valueLines values n = pieces (λ v. valueLine v (getD values v 0)) n 0
 
+-- the line of a number with a word before it
+abbrev pub numberLine : List ℕ → ℕ → List ℕ
+numberLine word k = word ++ (decimal k ++ newline)
+
 -- the line of the count of rounds
 abbrev pub roundsLine : ℕ → List ℕ
-roundsLine k = rounds ++ (decimal k ++ newline)
+roundsLine k = numberLine rounds k
 
 -- a refusal's lines: for ground 11 a second line has the loop that the scratch shows
 unfoldable pub refusalText : Ground → ℕ → List ℕ → List ℕ
@@ -113,6 +121,10 @@ certifiedText cells n k = roundsLine k ++ factLines cells n
 -- all that is printed of an accepted list on a table of n records: from the values
 abbrev pub benchedText : List ℕ → ℕ → ℕ → List ℕ
 benchedText values n k = valueLines values n
+
+-- all that is printed of an order of n sizes that is billed: the bill, and each size's share
+abbrev pub billedText : List ℕ → ℕ → ℕ → List ℕ
+billedText shares n k = numberLine bill k ++ valueLines shares n
 
 -- all that is printed of an answer: what an accepted one shows by the number that it carries, or a refusal
 abbrev pub answerText : (ℕ → List ℕ) → Answer → List ℕ → List ℕ

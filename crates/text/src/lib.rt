@@ -1,19 +1,24 @@
 // The text that the programs print, made in a lent buffer: numbers in base ten, lines, whole answers. It is put from
-// the buffer's end down, since a number's last digit comes out first; a function answers where the text begins.
+// the buffer's end down, since a number's last digit comes out first; a function answers where the text begins. Numbers
+// that a program is given as words are read in `word`.
+ghost use mathlib.Core.List.{[]};
 ghost use Prim.Native.Nat.{_≤_};
 ghost use lib.ListN.{length};
 ghost use Rattle.call.specs.Call.{lent, left};
 ghost use Rattle.certificate.specs.Promise as certified;
 ghost use Rattle.machine.specs.Promise as benched;
-ghost use Rattle.text.specs.Text.{refusalText, certifiedText, benchedText, answerText};
+ghost use Rattle.bill.specs.Promise as billed;
+ghost use Rattle.text.specs.Text.{refusalText, certifiedText, benchedText, billedText, answerText};
 ghost use Rattle.text.specs.Pieces.{Put};
-ghost use Rattle.text.specs.Prints.{ShowsRow, AnswerStands, PromisesInText};
+ghost use Rattle.text.specs.Prints.{ShowsRow, AnswerStands, BillStands, TextOf, PromisesInText};
 ghost use Rattle.text.specs.Reports.{Tells, Within, PromisesInBytes};
 use crate::lines::put_facts;
 use crate::lines::put_loop;
+use crate::lines::put_number_line;
 use crate::lines::put_refusal;
-use crate::lines::put_rounds;
 use crate::lines::put_values;
+use bill::Billed;
+use bill::bill;
 use certificate::Certified;
 use certificate::certify;
 use circuit::refusal::Ground;
@@ -23,6 +28,7 @@ use machine::bench;
 
 mod lines;
 mod put;
+pub mod word;
 
 // What is told to a program that reads the certificate's own bytes: how many they are, or where a refusal's line
 // begins.
@@ -62,7 +68,7 @@ fn put_certified(
     match answer {
         Certified::Accepted(rounds) => {
             let p = put_facts(out, out.len(), certificate, n);
-            put_rounds(out, p, rounds)
+            put_number_line(out, p, b"rounds ", rounds)
         }
         Certified::Refused(ground, place) => put_refused(out, ground, place, scratch),
     }
@@ -92,6 +98,22 @@ fn put_benched(out: &mut [u8], answer: Benched, n: usize, values: &[u32], scratc
     match answer {
         Benched::Accepted => put_values(out, out.len(), values, n),
         Benched::Refused(ground, place) => put_refused(out, ground, place, scratch),
+    }
+}
+
+// The answer to an order of n sizes.
+fn put_billed(out: &mut [u8], answer: Billed, n: usize, shares: &[u32]) -> usize
+    requires { ⌜ 2048 ≤ length (now out) ⌝ }
+    requires { ⌜ BillStands (billed.answerOf answer) n (length (now shares)) ⌝ }
+    ensures { λ r. ⌜ Put (answerText (billedText (now (shares .entry)) n) (billed.answerOf answer) [])
+        (now (out .entry)) (length (now (out .entry))) (now (out .exit)) r ⌝ }
+{
+    match answer {
+        Billed::Accepted(cents) => {
+            let p = put_values(out, out.len(), shares, n);
+            put_number_line(out, p, b"bill ", cents)
+        }
+        Billed::Refused(ground, place) => put_refusal(out, out.len(), ground, place),
     }
 }
 
@@ -147,4 +169,17 @@ pub fn bench_text(
 {
     let answer = bench(table, stimuli, values, scratch);
     put_benched(out, answer, table.len() / 16, values, scratch)
+}
+
+// Bills an order of these sizes and makes the text of the answer. It stands in `out` from the place answered up to the
+// end.
+pub fn bill_text(sizes: &[u32], shares: &mut [u32], out: &mut [u8; 2048]) -> usize
+    ensures { λ r. ⌜ TextOf
+        (billed.Bills (now (sizes .entry)) (now (shares .entry)) (now (shares .exit)))
+        (λ answer. answerText (billedText (now (shares .exit)) (length (now (sizes .entry)))) answer [])
+        (now (out .entry)) (now (out .exit)) r ⌝ }
+    ensures { λ r. ⌜ (r ≤ 2048) × (2048 ≤ length (now (out .exit))) ⌝ }
+{
+    let answer = bill(sizes, shares);
+    put_billed(out, answer, sizes.len(), shares)
 }

@@ -1,7 +1,7 @@
-// Lines of what the programs print: a refusal, a loop, a variable's fact, the count of rounds.
+// Lines of what the programs print: a refusal, a loop, a variable's fact or value, a number with a word before it.
 ghost use Prim.Native.Nat.{_+_, _-_, _*_, _≤_, _<_};
 ghost use lib.ListN.{length};
-ghost use Rattle.text.specs.Text.{refusalLine, pieces, spaced, loopLine, factText, factLine, factLines, valueLine, valueLines, roundsLine};
+ghost use Rattle.text.specs.Text.{refusalLine, pieces, spaced, loopLine, factText, factLine, factLines, valueLine, valueLines, numberLine};
 ghost use Rattle.text.specs.Pieces.{Put};
 use crate::put::put_byte;
 use crate::put::put_number;
@@ -101,7 +101,7 @@ fn put_value_line(out: &mut [u8], at: usize, v: usize, x: u32) -> usize
     put_number(out, q, v as u64)
 }
 
-// The lines of n variables, from the values that a bench run writes.
+// The lines of n numbers: the values that a bench run writes, or the shares of an order.
 pub fn put_values(out: &mut [u8], at: usize, values: &[u32], n: usize) -> usize
     requires { ⌜ (n ≤ 4096) × (n ≤ length (now values)) × (n * 16 ≤ at) × (at ≤ length (now out)) ⌝ }
     ensures { λ r. ⌜ Put (valueLines (now (values .entry)) n) (now (out .entry)) at (now (out .exit)) r ⌝ }
@@ -116,11 +116,12 @@ pub fn put_values(out: &mut [u8], at: usize, values: &[u32], n: usize) -> usize
     p
 }
 
-pub fn put_rounds(out: &mut [u8], at: usize, rounds: u32) -> usize
-    requires { ⌜ (18 ≤ at) × (at ≤ length (now out)) ⌝ }
-    ensures { λ r. ⌜ Put (roundsLine rounds) (now (out .entry)) at (now (out .exit)) r ⌝ }
+// A number with a word before it.
+pub fn put_number_line(out: &mut [u8], at: usize, word: &[u8], k: u32) -> usize
+    requires { ⌜ (length (now word) ≤ 7) × (18 ≤ at) × (at ≤ length (now out)) ⌝ }
+    ensures { λ r. ⌜ Put (numberLine (now (word .entry)) k) (now (out .entry)) at (now (out .exit)) r ⌝ }
 {
     let end = put_byte(out, at, 10);
-    let p = put_number(out, end, rounds as u64);
-    put_word(out, p, b"rounds ")
+    let p = put_number(out, end, k as u64);
+    put_word(out, p, word)
 }

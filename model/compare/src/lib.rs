@@ -22,6 +22,8 @@ extern "C" {
         scratch: *mut u16,
         scratch_len: usize,
     ) -> u64;
+
+    fn lambdac_bill(sizes: *const u32, sizes_len: usize, shares: *mut u32, shares_len: usize) -> u64;
 }
 
 /// The archive's certifying call: the count of rounds, or the refusal.
@@ -56,6 +58,12 @@ pub fn bench(table: &[u8], stimuli: &[u8], values: &mut [u32], scratch: &mut [u1
         )
     };
     unpacked(answer).map(|number| assert_eq!(number, 0, "an accepted bench call returns 0"))
+}
+
+/// The archive's call for a bill: the bill, or the refusal.
+pub fn bill(sizes: &[u32], shares: &mut [u32]) -> Result<u32, Refusal> {
+    // SAFETY: each pointer and length are those of one slice, and borrowed slices do not overlap.
+    unpacked(unsafe { lambdac_bill(sizes.as_ptr(), sizes.len(), shares.as_mut_ptr(), shares.len()) })
 }
 
 /// The number of an accepted call; or the refusal, which is packed as ground * 2^32 + place.

@@ -12,8 +12,8 @@ use common::samples::{every_rule, one_of_each, samples, BOUNDARY_VALUES};
 use common::shapes::{chain, layers, random_pair, register_chain, register_ring, turned};
 use common::tables::{damage, random_stimuli, random_table};
 use common::{
-    cases, fixed, free, operator, poke_bytes, register, secret, Random, RecordBytes, Table, MOST_RECORDS,
-    MOST_STIMULI, TICK,
+    cases, fixed, free, operator, poke_bytes, register, secret, widened, Random, RecordBytes, Table,
+    MOST_RECORDS, MOST_STIMULI, TICK,
 };
 use lent::answers::random_calls;
 use lent::{held_to_model, Buffers, Inputs, Lengths};
@@ -25,8 +25,8 @@ const NUMBERS_A_RECORD: usize = 1;
 /// What the archive answers on buffers of these lengths, held against the model.
 fn bench_on(table: &[u8], stimuli: &[u8], lengths: Lengths) -> Result<(), Refusal> {
     held_to_model(
-        Inputs { table, stimuli },
-        &Buffers::new(lengths, |number| u32::from(number) * 65_537),
+        Inputs { table, stimuli, ..Inputs::default() },
+        &Buffers::new(lengths, widened),
         |values, scratch| compare::bench(table, stimuli, values, scratch),
         |values, scratch| model::bench(table, stimuli, values, scratch),
     )

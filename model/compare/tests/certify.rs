@@ -21,7 +21,7 @@ const BYTES_A_RECORD: usize = 8;
 /// What the archive answers on buffers of these lengths, held against the model.
 fn certify_on(table: &[u8], lengths: Lengths) -> Result<u32, Refusal> {
     held_to_model(
-        Inputs { table, stimuli: &[] },
+        Inputs { table, ..Inputs::default() },
         &Buffers::new(lengths, |number| number as u8),
         |certificate, scratch| compare::certify(table, certificate, scratch),
         |certificate, scratch| model::certify(table, certificate, scratch),

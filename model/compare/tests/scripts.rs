@@ -1,5 +1,5 @@
-//! The commands bin/certify and bin/bench, by lines of a shell in the repository's root: the exit status, and
-//! whether anything stands on standard output and on standard error.
+//! The commands bin/certify, bin/bench and bin/bill, by lines of a shell in the repository's root: the exit
+//! status, and whether anything stands on standard output and on standard error.
 
 use std::process::Command;
 
@@ -28,6 +28,15 @@ fn statuses() {
         ("bin/bench /dev/null /dev/null", 0, (false, false)),
         ("bin/bench examples/latch_loop/table /dev/null", 1, OUTPUT),
         ("bin/bench examples/case_a/table examples/case_a/table", 1, OUTPUT),
+        ("bin/bill", 0, OUTPUT),
+        ("bin/bill 201", 0, OUTPUT),
+        ("bin/bill 007 0 4096", 0, OUTPUT),
+        ("cd examples/case_a && ../../bin/bill 100 100 1", 0, OUTPUT),
+        ("bin/bill {1..64}", 0, OUTPUT),
+        ("bin/bill {1..65}", 1, OUTPUT),
+        ("bin/bill 1 4097", 1, OUTPUT),
+        ("bin/bill 4294967295", 1, OUTPUT),
+        ("(trap '' XFSZ; ulimit -f 0; bin/bill x)", 2, (false, false)),
     ] {
         assert_ends(line, status, printed);
     }
@@ -36,7 +45,8 @@ fn statuses() {
 #[test]
 fn neither_could_be_said() {
     let calls = ["bin/certify", "bin/certify --bytes", "bin/bench examples/case_a/table"];
-    for call in calls {
+    let bills = ["bin/bill", "bin/bill 201", "bin/bill 4097", "bin/bill {1..65}"];
+    for call in calls.into_iter().chain(bills) {
         for rest in ["no_such_file", "examples", "''", "a b c", "--help"] {
             assert_ends(&format!("{call} {rest}"), 2, ERRORS);
         }
@@ -51,6 +61,15 @@ fn neither_could_be_said() {
         "bin/bench",
         "bin/bench examples/case_a/table examples/case_a/stimuli > /dev/full",
         "bin/bench examples/case_a/table examples/case_a/stimuli >&-",
+        "bin/bill -5",
+        "bin/bill '1 2'",
+        "bin/bill $'7\\n'",
+        "bin/bill 4294967296",
+        "bin/bill x 201",
+        "bin/bill > /dev/full",
+        "bin/bill 201 > /dev/full",
+        "bin/bill 201 >&-",
+        "bin/bill 4097 > /dev/full",
     ] {
         assert_ends(line, 2, ERRORS);
     }

@@ -1,5 +1,7 @@
-//! A table and a list of stimuli that meet a given set of grounds, on one record of each sort.
+//! A table and a list of stimuli that meet a given set of grounds, on one record of each sort; and an order
+//! that does.
 
+use super::orders::{LARGEST_SIZE, MOST_SIZES};
 use super::samples::{changed, one_of_each, CONSTANT, FIXED, FREE, OPERATOR, REGISTER};
 use super::{poke_bytes, StimulusBytes, MOST_RECORDS, MOST_STIMULI, TICK};
 
@@ -70,4 +72,15 @@ fn stimulus_that_meets(meets: impl Fn(u32) -> bool) -> StimulusBytes {
     let mut stimulus = poke_bytes(variable as u16, n);
     stimulus[1] = u8::from(meets(14));
     stimulus
+}
+
+/// An order that meets each of these grounds among 18 and 19: as many sizes as an order can have, and one
+/// more for 18. For 19 the size at this place is the first too large, and those behind it are larger still.
+pub fn order_that_meets(meets: impl Fn(u32) -> bool, place: usize) -> Vec<u32> {
+    let mut sizes = vec![LARGEST_SIZE; MOST_SIZES + usize::from(meets(18))];
+    if meets(19) {
+        sizes[place..].fill(u32::MAX);
+        sizes[place] = LARGEST_SIZE + 1;
+    }
+    sizes
 }

@@ -1,15 +1,16 @@
 //! What the tests share: records and stimuli from their fields, a seeded generator of random numbers, and
-//! the two calls made on buffers whose contents are checked afterwards by document 01's clauses.
+//! the two calls on tables made on buffers whose contents are checked afterwards by document 01's clauses.
 //! Random tables and lists come from `tables`, and tables of one shape from `shapes`; document 01's cases
 //! are in `document_cases`, further tables in `samples`, what meets a set of grounds in `grounds`, and bench
-//! runs in `hand_runs`. `printed` has the lines that the programs print, and `two_runs` tries demand 3 on
-//! any two calls.
+//! runs in `hand_runs`. `orders` has orders and the call for a bill, `printed` the lines that the programs
+//! print, and `two_runs` tries demand 3 on any two calls.
 
 #![allow(dead_code)] // each test file uses a part
 
 pub mod document_cases;
 pub mod grounds;
 pub mod hand_runs;
+pub mod orders;
 pub mod printed;
 pub mod samples;
 pub mod shapes;
@@ -164,7 +165,7 @@ pub fn certify_on(table: &[u8], certificate: usize, scratch: usize) -> Answer {
     let scratch_before: Vec<u16> = noise(scratch).collect();
     let (mut after, mut scratch_after) = (before.clone(), scratch_before.clone());
     let answer = certify(table, &mut after, &mut scratch_after);
-    check_output(table, answer, 8, &before, &after);
+    check_output(answer, table.len() / 16 * 8, &before, &after);
     let row = check_scratch(table, answer, &scratch_before, &scratch_after);
     let count = answer.map_err(|refusal| refused(refusal, row))?;
     after.truncate(table.len() / 16 * 8);
@@ -182,11 +183,11 @@ pub type Values = Result<Vec<u32>, Refused>;
 
 /// The bench call on buffers of these lengths. What document 01 says of the buffers is checked.
 pub fn bench_on(table: &[u8], stimuli: &[u8], values: usize, scratch: usize) -> Values {
-    let before: Vec<u32> = noise(values).map(|number| u32::from(number) * 65_537).collect();
+    let before: Vec<u32> = noise(values).map(widened).collect();
     let scratch_before: Vec<u16> = noise(scratch).collect();
     let (mut after, mut scratch_after) = (before.clone(), scratch_before.clone());
     let answer = bench(table, stimuli, &mut after, &mut scratch_after);
-    check_output(table, answer, 1, &before, &after);
+    check_output(answer, table.len() / 16, &before, &after);
     let row = check_scratch(table, answer, &scratch_before, &scratch_after);
     answer.map_err(|refusal| refused(refusal, row))?;
     after.truncate(table.len() / 16);
@@ -214,15 +215,19 @@ pub fn noise(length: usize) -> impl Iterator<Item = u16> {
     (0..length).map(|i| (i as u16).wrapping_mul(40_503) | 0x0101)
 }
 
-/// A refusal changes no output; an accepted call changes nothing past so much a record.
+/// A number of the noise as one of 32 bits, with no byte 0 either.
+pub fn widened(number: u16) -> u32 {
+    u32::from(number) * 65_537
+}
+
+/// A refusal changes no output; an accepted call changes nothing past what it asks.
 fn check_output<T, V: PartialEq + std::fmt::Debug>(
-    table: &[u8],
     answer: Result<T, Refusal>,
-    a_record: usize,
+    asked: usize,
     before: &[V],
     after: &[V],
 ) {
-    let written = answer.map_or(0, |_| table.len() / 16 * a_record);
+    let written = answer.map_or(0, |_| asked);
     assert_eq!(before[written..], after[written..], "output");
 }
 

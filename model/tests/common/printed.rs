@@ -1,5 +1,6 @@
 //! The lines that the programs print for what their calls answer.
 
+use super::orders::Billed;
 use super::{Answer, Refused, Values};
 use model::Fact;
 
@@ -18,9 +19,17 @@ pub fn printed_certificate(answer: &Answer) -> String {
 
 /// The lines that the program bench prints for an answer.
 pub fn printed_values(answer: &Values) -> String {
-    printed(answer, |values| {
-        values.iter().enumerate().map(|(variable, n)| format!("{variable} {n}\n")).collect()
-    })
+    printed(answer, |values| numbered_lines(values))
+}
+
+/// The lines that the program bill_order prints for an answer.
+pub fn printed_bill(answer: &Billed) -> String {
+    printed(answer, |(bill, shares)| format!("bill {bill}\n{}", numbered_lines(shares)))
+}
+
+/// A line a number, behind its index.
+fn numbered_lines(numbers: &[u32]) -> String {
+    numbers.iter().enumerate().map(|(index, n)| format!("{index} {n}\n")).collect()
 }
 
 /// The lines of an accepted call or, for a refusal, its line and for ground 11 a second one with the loop.

@@ -15,12 +15,15 @@ put-facts-requires c κs =
     (c .before .before .before .before .before .before .before .pre .1) in
     (p .0, p .1, omega (arith, p .0), omega arith)
 
-put-rounds-requires : tie.Need-put-rounds-requires
-put-rounds-requires c κs =
-    let p = rw (c .before .before .before .before .before .before .answer .given .1) at
-    (c .before .before .before .before .before .before .before .before .before .before .before .pre .1) in
-    let facts = c .before .before .before .put-facts .ensures in
-    (omega (arith, p .0, facts .1), omega (arith, facts .0 .start, facts .0 .long))
+slice-aggregate-put-number-line : tie.Need-slice-aggregate-put-number-line
+slice-aggregate-put-number-line c = search needs
+
+put-number-line-requires : tie.Need-put-number-line-requires
+put-number-line-requires c κs =
+    let p = rw (c .before .before .before .before .before .before .before .answer .given .1) at
+    (c .before .before .before .before .before .before .before .before .before .before .before .before .pre .1) in
+    let facts = c .before .before .before .before .put-facts .ensures in
+    (omega arith, omega (arith, p .0, facts .1), omega (arith, facts .0 .start, facts .0 .long))
 
 enum-known-answer-2 : tie.Need-enum-known-answer-2
 enum-known-answer-2 c = search needs
@@ -37,9 +40,9 @@ same-length c = search needs
 
 returns : tie.Need-returns
 returns c =
-    rw (c .before .before .before .before .before .before .before .before .before .answer .given .1)
-    (put-then (c .before .before .before .before .before .before .put-facts .ensures .0)
-    (c .before .before .put-rounds .ensures))
+    rw (c .before .before .before .before .before .before .before .before .before .before .answer .given .1)
+    (put-then (c .before .before .before .before .before .before .before .put-facts .ensures .0)
+    (c .before .before .put-number-line .ensures))
 
 same-length-2 : tie.Need-same-length-2
 same-length-2 c = search needs
@@ -54,7 +57,8 @@ put-certified-spec =
     (tie.spec
     enum-known-answer
     put-facts-requires
-    put-rounds-requires
+    slice-aggregate-put-number-line
+    put-number-line-requires
     enum-known-answer-2
     put-refused-requires
     same-length

@@ -4,11 +4,11 @@ use crate::common::Random;
 use model::Refusal;
 
 /// How often each answer came, by its ground and with 0 for accepted, and the greatest number that came with
-/// it: the rounds of an accepted call, the place of a refused one.
+/// it: the one that an accepted call answers, the place of a refused one.
 #[derive(Debug, Default)]
 struct Answers {
-    times: [usize; 18],
-    greatest: [usize; 18],
+    times: [usize; 20],
+    greatest: [usize; 20],
 }
 
 /// Makes so many random calls. Asserts that each of these grounds was met, 0 being none.
@@ -21,7 +21,7 @@ pub fn random_calls(
     let mut answers = Answers::default();
     for _ in 0..calls {
         let (ground, number) = match call(random) {
-            Ok(rounds) => (0, rounds as usize),
+            Ok(number) => (0, number as usize),
             Err(Refusal { ground, place }) => (ground as usize, place),
         };
         answers.times[ground] += 1;

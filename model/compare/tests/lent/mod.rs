@@ -1,6 +1,8 @@
 //! Buffers lent to a call, and a call of the archive held against the model's on equal buffers. A buffer
 //! lies in memory that no call may touch, all of it filled with noise at entry.
 
+#![allow(dead_code)] // each test file uses a part
+
 pub mod answers;
 
 use crate::common::{assert_shows_loop, noise, Random};
@@ -32,7 +34,7 @@ impl Lengths {
         Lengths { output, scratch, ..self }
     }
 
-    /// Each buffer empty, too short by half and by one, as long as asked, and longer by one and by more.
+    /// Each buffer of every length around the one asked for it.
     pub fn around(self) -> impl Iterator<Item = Lengths> {
         let scratches = lengths_around(self.scratch);
         lengths_around(self.output).into_iter().flat_map(move |output| {
@@ -53,7 +55,9 @@ impl Lengths {
     }
 }
 
-fn lengths_around(asked: usize) -> Vec<usize> {
+/// A buffer's lengths around the one asked for: empty, too short by half and by one, as long as asked, and
+/// longer by one and by more.
+pub fn lengths_around(asked: usize) -> Vec<usize> {
     let mut lengths = vec![0, asked / 2, asked.saturating_sub(1), asked, asked + 1, asked + 9];
     lengths.dedup();
     lengths
@@ -108,24 +112,26 @@ impl<V: Clone + PartialEq + Debug> Buffers<V> {
     }
 }
 
-/// What a call reads. The certifying call reads no stimuli.
-#[derive(Clone, Copy)]
+/// What a call reads: the certifying call a table, the bench call stimuli too, and the call for a bill sizes.
+#[derive(Clone, Copy, Default)]
 pub struct Inputs<'a> {
     pub table: &'a [u8],
     pub stimuli: &'a [u8],
+    pub sizes: &'a [u32],
 }
 
 impl Display for Inputs<'_> {
     fn fmt(&self, f: &mut Formatter) -> std::fmt::Result {
-        write_lines(f, "table", self.table, 16)?;
-        write_lines(f, "stimuli", self.stimuli, 8)
+        write_lines(f, "bytes of table", self.table, 16)?;
+        write_lines(f, "bytes of stimuli", self.stimuli, 8)?;
+        write_lines(f, "sizes", self.sizes, 16)
     }
 }
 
-/// Writes bytes as a line a record, up to so many that small tables and lists are whole.
-fn write_lines(f: &mut Formatter, name: &str, bytes: &[u8], a_record: usize) -> std::fmt::Result {
-    write!(f, "\n{name}, {} bytes:", bytes.len())?;
-    bytes.chunks(a_record).take(40).try_for_each(|record| write!(f, "\n{record:3?}"))
+/// Writes numbers as lines of so many, up to so many lines that small tables, lists and orders are whole.
+fn write_lines(f: &mut Formatter, name: &str, numbers: &[impl Debug], a_line: usize) -> std::fmt::Result {
+    write!(f, "\n{} {name}:", numbers.len())?;
+    numbers.chunks(a_line).take(40).try_for_each(|line| write!(f, "\n{line:3?}"))
 }
 
 /// What a call of the archive answers on these buffers, held against the model's call on equal buffers: the

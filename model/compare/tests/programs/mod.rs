@@ -1,12 +1,14 @@
 //! The programs, run as a user runs them: where each is, and all that a run of it prints.
 
+#![allow(dead_code)] // each test file uses a part
+
 use crate::common::{assert_shows_loop, Refused};
 use std::io::{ErrorKind, Write};
 use std::path::PathBuf;
 use std::process::{Command, Stdio};
 use std::thread;
 
-/// Lengths of a table of zeros around the longest, and what both programs print for it.
+/// Lengths of a table of zeros around the longest, and what certify and bench print for it.
 pub const TABLES_AROUND_THE_LONGEST: [(usize, &str); 5] = [
     (65_535, "refused 2 at 0\n"),
     (65_536, "refused 6 at 0\n"),

@@ -1,0 +1,5 @@
+pub mod Prices
+pub mod Orders
+pub mod Reordered
+pub mod Writing
+pub mod Promise

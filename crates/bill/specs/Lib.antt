@@ -1,0 +1,4 @@
+pub mod Prices
+pub mod Order
+pub mod Promise
+pub mod Examples
