@@ -2,7 +2,11 @@
 //! Rust on the same lent buffers), by chunks (the same, with one bounds check a record and a fact), by
 //! structs (records decoded first), and for certify a worklist with a heap. Every variant's answer and
 //! buffers are compared with the archive's before it is timed. Nothing asserts a time.
+//!
+//! Given the paths of two shared objects, made of this archive and of an earlier one, it also holds the one
+//! against the other.
 
+mod before;
 mod bench;
 mod certify;
 mod measure;
@@ -14,22 +18,27 @@ mod worklist;
 #[path = "../../model/tests/common/mod.rs"]
 mod common;
 
+use before::Archive;
 use common::shapes::random_pair;
 use common::tables::damage;
 use common::{noise, Random};
-use measure::{medians, Call};
-use model::{read_records, Record};
+use measure::{medians, ratios, Call};
+use model::{read_records, Record, Refusal};
 use shapes::Shape;
+use std::cell::RefCell;
 use std::fmt::Debug;
 use std::hint::black_box;
 
-type Certify = fn(&[u8], &mut [u8], &mut [u16]) -> certify::Answer;
-type Bench = fn(&[u8], &[u8], &mut [u32], &mut [u16]) -> bench::Answer;
+type Certify = dyn Fn(&[u8], &mut [u8], &mut [u16]) -> certify::Answer;
+type Bench = dyn Fn(&[u8], &[u8], &mut [u32], &mut [u16]) -> bench::Answer;
 
 /// The archive's call, and then the variants.
-const CERTIFY: [Certify; 5] =
-    [compare::certify, certify::by_bytes, certify::by_chunks, certify::by_structs, worklist::certify];
-const BENCH: [Bench; 4] = [compare::bench, bench::by_bytes, bench::by_chunks, bench::by_structs];
+const CERTIFY: [&Certify; 5] =
+    [&compare::certify, &certify::by_bytes, &certify::by_chunks, &certify::by_structs, &worklist::certify];
+const BENCH: [&Bench; 4] = [&compare::bench, &bench::by_bytes, &bench::by_chunks, &bench::by_structs];
+
+/// What a call answers, and what it leaves in its output and in its scratch.
+type Made<A, T> = (Result<A, Refusal>, Vec<T>, Vec<u16>);
 
 /// How many of the variants work without a heap, so that their scratch is compared as well.
 const SAME_SCRATCH: usize = 2;
@@ -37,17 +46,26 @@ const SAME_SCRATCH: usize = 2;
 /// How many random tables and lists, about half of them refused, the variants are compared on besides.
 const RANDOM_TABLES: usize = 3000;
 
-const SEED: u64 = 8;
+/// With this seed the shapes are those of docs/PERFORMANCE.md.
+const SEED: u64 = 0x1833_2ffc_e272_4a06;
 
 fn main() {
+    let paths: Vec<String> = std::env::args().skip(1).collect();
+    let archives = match &paths[..] {
+        [] => None,
+        [this, earlier] => Some([this, earlier].map(|path| Archive::load(path))),
+        _ => panic!("usage: benchmarks [SHARED_OBJECT EARLIER_SHARED_OBJECT]"),
+    };
     let mut random = Random::of_test("benchmarks", SEED);
+    // The shapes come first, so that they do not depend on the random tables.
+    let [for_certify, for_bench] = shapes::shapes(&mut random);
     compare_variants(&mut random);
-    print_head();
-    for shape in shapes::for_certify(&mut random) {
-        certify_row(&shape);
+    print_head(archives.is_some());
+    for shape in for_certify {
+        certify_row(&shape, archives.as_ref());
     }
-    for shape in shapes::for_bench(&mut random) {
-        bench_row(&shape);
+    for shape in for_bench {
+        bench_row(&shape, archives.as_ref());
     }
 }
 
@@ -78,36 +96,49 @@ fn compare_random(random: &mut Random) {
 
 /// The answer of all certifying calls, once they are found equal.
 fn certified(table: &[u8], longer: usize) -> certify::Answer {
+    let made = certify_each(CERTIFY, table, longer);
+    assert_alike(&made);
+    made[0].0
+}
+
+fn certify_each<const N: usize>(calls: [&Certify; N], table: &[u8], longer: usize) -> [Made<u32, u8>; N] {
     let n = table.len() / 16;
-    let made = CERTIFY.map(|call| {
+    calls.map(|call| {
         let mut certificate: Vec<u8> = noise(n * 8 + longer).map(|x| x as u8).collect();
         let mut scratch: Vec<u16> = noise(n * 4 + longer).collect();
         let answer = call(table, &mut certificate, &mut scratch);
         (answer, certificate, scratch)
-    });
-    assert_alike(&made);
-    made[0].0
+    })
 }
 
 /// The answer of all bench calls, once they are found equal.
 fn benched(table: &[u8], stimuli: &[u8], longer: usize) -> bench::Answer {
-    let n = table.len() / 16;
-    let made = BENCH.map(|call| {
-        let mut values: Vec<u32> = noise(n + longer).map(u32::from).collect();
-        let mut scratch: Vec<u16> = noise(n * 4 + longer).collect();
-        let answer = call(table, stimuli, &mut values, &mut scratch);
-        (answer, values, scratch)
-    });
+    let made = bench_each(BENCH, table, stimuli, longer);
     assert_alike(&made);
     made[0].0
 }
 
-/// Asserts that every variant made the archive's answer and output, and the first variants its scratch.
-fn assert_alike<A: PartialEq + Debug, T: PartialEq + Debug>(made: &[(A, Vec<T>, Vec<u16>)]) {
-    for (i, variant) in made.iter().enumerate().skip(1) {
-        assert_eq!(made[0].0, variant.0, "the answer of variant {i}");
-        assert_eq!(made[0].1, variant.1, "the output of variant {i}");
-        assert!(i > SAME_SCRATCH || made[0].2 == variant.2, "the scratch of variant {i}");
+fn bench_each<const N: usize>(
+    calls: [&Bench; N],
+    table: &[u8],
+    stimuli: &[u8],
+    longer: usize,
+) -> [Made<(), u32>; N] {
+    let n = table.len() / 16;
+    calls.map(|call| {
+        let mut values: Vec<u32> = noise(n + longer).map(u32::from).collect();
+        let mut scratch: Vec<u16> = noise(n * 4 + longer).collect();
+        let answer = call(table, stimuli, &mut values, &mut scratch);
+        (answer, values, scratch)
+    })
+}
+
+/// Asserts that every call made the first one's answer and output, and the first ones its scratch.
+fn assert_alike<A: PartialEq + Debug, T: PartialEq + Debug>(made: &[Made<A, T>]) {
+    for (i, other) in made.iter().enumerate().skip(1) {
+        assert_eq!(made[0].0, other.0, "the answer of call {i}");
+        assert_eq!(made[0].1, other.1, "the output of call {i}");
+        assert!(i > SAME_SCRATCH || made[0].2 == other.2, "the scratch of call {i}");
     }
 }
 
@@ -118,59 +149,101 @@ fn counted(table: &[u8]) -> (usize, usize) {
     (count(Record::is_wire), count(Record::is_register))
 }
 
-fn certify_row(shape: &Shape) {
+/// All calls of a row work on the same buffers: where a buffer lies is part of a call's time.
+fn certify_row(shape: &Shape, archives: Option<&[Archive; 2]>) {
     let rounds = certified(&shape.table, 0).expect("the shapes are accepted") as usize;
     let n = shape.table.len() / 16;
     let table = &shape.table;
-    let made = |call: Certify| -> Call {
-        let (mut certificate, mut scratch) = (vec![0; n * 8], vec![0; n * 4]);
+    let lent = &RefCell::new((vec![0; n * 8], vec![0; n * 4]));
+    let ready = |call: &'static Certify| -> Call {
         Box::new(move || {
-            let _ = black_box(call(black_box(table), &mut certificate, &mut scratch));
+            let (certificate, scratch) = &mut *lent.borrow_mut();
+            let _ = black_box(call(black_box(table), certificate, scratch));
         })
     };
-    let times = medians(&mut CERTIFY.map(made));
+    let times = medians(&mut CERTIFY.map(ready));
+    let before = archives.map(|archives| {
+        let calls = archives.each_ref().map(|archive| archive.certify);
+        before_cell(&certify_each(calls, table, 0), calls.map(ready))
+    });
     let (wires, registers) = counted(table);
-    print_row("certify", shape.name, n, rounds, (wires + registers) * (rounds + 1), &times);
+    print_row("certify", shape.name, n, rounds, (wires + registers) * (rounds + 1), &times, before);
 }
 
-fn bench_row(shape: &Shape) {
+fn bench_row(shape: &Shape, archives: Option<&[Archive; 2]>) {
     benched(&shape.table, &shape.stimuli, 0).expect("the shapes are accepted");
     let n = shape.table.len() / 16;
     let (table, stimuli) = (&shape.table, &shape.stimuli);
-    let made = |call: Bench| -> Call {
-        let (mut values, mut scratch) = (vec![0; n], vec![0; n * 4]);
+    let lent = &RefCell::new((vec![0; n], vec![0; n * 4]));
+    let ready = |call: &'static Bench| -> Call {
         Box::new(move || {
-            let _ = black_box(call(black_box(table), black_box(stimuli), &mut values, &mut scratch));
+            let (values, scratch) = &mut *lent.borrow_mut();
+            let _ = black_box(call(black_box(table), black_box(stimuli), values, scratch));
         })
     };
-    let times = medians(&mut BENCH.map(made));
+    let times = medians(&mut BENCH.map(ready));
+    let before = archives.map(|archives| {
+        let calls = archives.each_ref().map(|archive| archive.bench);
+        before_cell(&bench_each(calls, table, stimuli, 0), calls.map(ready))
+    });
     let (wires, registers) = counted(table);
     let count = stimuli.len() / 8;
     let ticks = stimuli.as_chunks::<8>().0.iter().filter(|stimulus| stimulus[0] == 1).count();
-    print_row("bench", shape.name, n, count, wires * (count + 1) + registers * ticks, &times);
+    print_row("bench", shape.name, n, count, wires * (count + 1) + registers * ticks, &times, before);
 }
 
-fn print_head() {
+/// The first archive's time by the second's, or nothing where that refuses what the first accepts.
+fn before_cell<A: PartialEq + Debug, T: PartialEq + Debug>(
+    made: &[Made<A, T>; 2],
+    mut calls: [Call; 2],
+) -> String {
+    if made[1].0.is_err() {
+        return String::new();
+    }
+    assert_alike(made);
+    let [lowest, _, middle, _, highest] = ratios(&mut calls);
+    format!("{middle:.2} ({lowest:.2} to {highest:.2})")
+}
+
+fn print_head(before: bool) {
     println!("count: rounds of certify, stimuli of bench; ns each: the call's time by its evaluations");
     println!(
         "times are medians; a ratio is the archive's time by the variant's: below 1 the archive is faster"
     );
+    if before {
+        println!("before: the archive's time by the earlier one's, both as shared objects, in five parts");
+        println!("of the turns: the middle ratio, lowest and highest; empty where the earlier refuses");
+    }
     println!();
     let [call, shape, n, count, us, ns] = ["call", "shape", "records", "count", "us a call", "ns each"];
     let [bytes, chunks, structs, worklist] = ["bytes", "chunks", "structs", "worklist"];
+    let (title, line) = if before { (last_cell("before"), "---:|") } else { (String::new(), "") };
     println!(
         "| {call:<7} | {shape:<25} | {n:>7} | {count:>5} | {us:>9} | {ns:>7} \
-         | {bytes:>5} | {chunks:>6} | {structs:>7} | {worklist:>8} |"
+         | {bytes:>5} | {chunks:>6} | {structs:>7} | {worklist:>8} |{title}"
     );
-    println!("|---|---|---:|---:|---:|---:|---:|---:|---:|---:|");
+    println!("|---|---|---:|---:|---:|---:|---:|---:|---:|---:|{line}");
 }
 
-fn print_row(call: &str, name: &str, n: usize, count: usize, evaluations: usize, times: &[f64]) {
+fn last_cell(text: &str) -> String {
+    format!(" {text:>19} |")
+}
+
+fn print_row(
+    call: &str,
+    name: &str,
+    n: usize,
+    count: usize,
+    evaluations: usize,
+    times: &[f64],
+    before: Option<String>,
+) {
     let ratio = |i: usize| times.get(i).map_or(String::new(), |time| format!("{:.2}", times[0] / time));
     let (us, ns) = (times[0] / 1000.0, times[0] / evaluations as f64);
     let [bytes, chunks, structs, worklist] = [1, 2, 3, 4].map(ratio);
+    let before = before.map_or(String::new(), |text| last_cell(&text));
     println!(
         "| {call:<7} | {name:<25} | {n:>7} | {count:>5} | {us:>9.2} | {ns:>7.1} \
-         | {bytes:>5} | {chunks:>6} | {structs:>7} | {worklist:>8} |"
+         | {bytes:>5} | {chunks:>6} | {structs:>7} | {worklist:>8} |{before}"
     );
 }

@@ -16,11 +16,29 @@ pub type Call<'a> = Box<dyn FnMut() + 'a>;
 
 /// The median time of each call in nanoseconds.
 pub fn medians(calls: &mut [Call]) -> Vec<f64> {
+    samples(calls, LEAST_SAMPLES).iter().map(|taken| median(taken)).collect()
+}
+
+/// The first call's median time by the second's in each fifth of the turns, in rising order.
+pub fn ratios(calls: &mut [Call; 2]) -> [f64; 5] {
+    // Three turns in a fifth at least.
+    let taken = samples(calls, 15);
+    let turns = taken[0].len();
+    let mut ratios = [0, 1, 2, 3, 4].map(|k| {
+        let fifth = turns * k / 5..turns * (k + 1) / 5;
+        median(&taken[0][fifth.clone()]) / median(&taken[1][fifth])
+    });
+    ratios.sort_by(f64::total_cmp);
+    ratios
+}
+
+/// The times of each call in nanoseconds, one a turn.
+fn samples(calls: &mut [Call], least: usize) -> Vec<Vec<f64>> {
     let once: Vec<Duration> = calls.iter_mut().map(|call| time(call, 1)).collect();
     let times: Vec<u32> = once.iter().map(|&once| repetitions(once)).collect();
     let turn: Duration = once.iter().zip(&times).map(|(&once, &times)| once * times).sum();
     let samples = (ROW.as_nanos() / turn.as_nanos().max(1)) as usize;
-    let samples = samples.clamp(LEAST_SAMPLES, MOST_SAMPLES);
+    let samples = samples.clamp(least, MOST_SAMPLES);
     let mut taken = vec![Vec::with_capacity(samples); calls.len()];
     for turn in 0..samples {
         // Each turn begins with another call, so that none always follows the same one.
@@ -30,7 +48,7 @@ pub fn medians(calls: &mut [Call]) -> Vec<f64> {
             taken[i].push(spent.as_nanos() as f64 / f64::from(times[i]));
         }
     }
-    taken.into_iter().map(median).collect()
+    taken
 }
 
 fn time(call: &mut Call, times: u32) -> Duration {
@@ -45,7 +63,8 @@ fn repetitions(once: Duration) -> u32 {
     (SAMPLE.as_nanos() / once.as_nanos().max(1)).max(1) as u32
 }
 
-fn median(mut taken: Vec<f64>) -> f64 {
+fn median(taken: &[f64]) -> f64 {
+    let mut taken = taken.to_vec();
     taken.sort_by(f64::total_cmp);
     taken[taken.len() / 2]
 }

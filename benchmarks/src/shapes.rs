@@ -1,12 +1,13 @@
 //! The tables and lists that are timed.
 
 use crate::common::document_cases::case_a;
-use crate::common::shapes::{register_ring, turned};
+use crate::common::shapes::turned;
 use crate::common::tables::{random_number, random_stimuli, renumbered};
 use crate::common::{
-    constant, fixed, free, multiplexer, operator, register, secret, Random, RecordBytes, Table, TICK,
+    constant, enabled, fixed, free, multiplexer, operator, poke_bytes, register, secret, Random,
+    RecordBytes, Table, TICK,
 };
-use model::{read_records, Operator};
+use model::{read_records, Operator, Record};
 
 /// A table, and for the bench the list that runs on it.
 pub struct Shape {
@@ -23,14 +24,24 @@ fn listed(name: &'static str, table: &[RecordBytes], list: &[[u8; 8]]) -> Shape 
     Shape { name, table: table.as_flattened().to_vec(), stimuli: list.as_flattened().to_vec() }
 }
 
-pub fn for_certify(random: &mut Random) -> Vec<Shape> {
+/// The shapes for certify and those for the bench. Those with enables are made last, so that no other depends
+/// on them.
+pub fn shapes(random: &mut Random) -> [Vec<Shape>; 2] {
+    let mut made = [for_certify(random), for_bench(random)];
+    for (shapes, enabled) in made.iter_mut().zip(with_enables(random)) {
+        shapes.extend(enabled);
+    }
+    made
+}
+
+fn for_certify(random: &mut Random) -> Vec<Shape> {
     let in_order = operators(random, 4096);
     let mut shapes = vec![
         shape("case A", &case_a(free(1))),
         shape("operators, in order", &in_order),
         shape("operators, in reverse", &turned(&in_order)),
         shape("chain of registers", &registers(4096)),
-        shape("ring of registers (2 R)", &register_ring(random, 1024)),
+        shape("ring of registers (2 R)", &ring(random, 1024)),
         shape("multiplexer tree", &multiplexers(random, 2048)),
     ];
     for n in [256, 512, 1024, 2048, 4096] {
@@ -42,7 +53,7 @@ pub fn for_certify(random: &mut Random) -> Vec<Shape> {
     shapes
 }
 
-pub fn for_bench(random: &mut Random) -> Vec<Shape> {
+fn for_bench(random: &mut Random) -> Vec<Shape> {
     let few = mix(random, 400);
     let many = mix(random, 4096);
     let tree = multiplexers(random, 2048);
@@ -59,6 +70,22 @@ pub fn for_bench(random: &mut Random) -> Vec<Shape> {
     ]
 }
 
+/// Two for certify, and two for the bench on the same tables.
+fn with_enables(random: &mut Random) -> [[Shape; 2]; 2] {
+    let chain = enabled_registers(4096);
+    let mix = mix_with_enables(random, 4096);
+    let ticks = [TICK; 256];
+    let mut enabled_ticks = ticks;
+    enabled_ticks[0] = poke_bytes(ENABLE, 1);
+    [
+        [shape("chain with enables", &chain), shape("mix with enables", &mix)],
+        [
+            listed("chain with enables, ticks", &chain, &enabled_ticks),
+            listed("mix with enables, ticks", &mix, &ticks),
+        ],
+    ]
+}
+
 /// One constant and operators of width 32, each on the one before it and on any before it.
 fn operators(random: &mut Random, n: usize) -> Table {
     let mut one = |i: usize| match i {
@@ -72,6 +99,23 @@ fn operators(random: &mut Random, n: usize) -> Table {
 fn registers(n: usize) -> Table {
     let chain = (1..n).map(|i| register(1, 0, i as u16 - 1));
     std::iter::once(constant(1, 1)).chain(chain).collect()
+}
+
+/// Registers in a ring, which take two rounds each: constant 1 makes them open one after another, and the last
+/// opens the multiplexer through which the secret input then marks them one after another.
+fn ring(random: &mut Random, n: usize) -> Table {
+    let start = [secret(8), constant(1, 1), multiplexer(8, n as u16 - 1, 0, 1)];
+    let registers = (3..n).map(|i| register(1 + random.below(32) as u8, 0, i as u16 - 1));
+    start.into_iter().chain(registers).collect()
+}
+
+/// The input that enables the registers of a chain.
+const ENABLE: u16 = 0;
+
+/// That input, free, a constant and a chain of registers behind it, which takes a round for each of them.
+fn enabled_registers(n: usize) -> Table {
+    let chain = (2..n).map(|i| enabled(1, 0, i as u16 - 1, ENABLE));
+    [free(1), constant(1, 1)].into_iter().chain(chain).collect()
 }
 
 /// A tree of multiplexers over so many leaves, which also are their controls.
@@ -107,6 +151,19 @@ fn mixed(random: &mut Random, i: usize, n: usize) -> RecordBytes {
         9..13 => multiplexer(w, a, b, c),
         _ => register(w, random_number(random, u32::from(w)), random.below(n) as u16),
     }
+}
+
+/// A mix in which half of the registers have an enable, any variable.
+fn mix_with_enables(random: &mut Random, n: usize) -> Table {
+    let mut table = mix(random, n);
+    for bytes in &mut table {
+        if let Ok(Record::Register { width, a, power_on }) = Record::read(bytes, n) {
+            if random.percent(50) {
+                *bytes = enabled(width as u8, power_on, a as u16, random.below(n) as u16);
+            }
+        }
+    }
+    table
 }
 
 /// Pokes of a table's inputs that the bench accepts.

@@ -77,7 +77,7 @@ impl Table for Bytes<'_> {
 
     #[inline(always)]
     fn is_register(&self, v: usize) -> bool {
-        self.kind(v) == Kind::Register
+        self.kind(v).is_register()
     }
 }
 
@@ -124,7 +124,7 @@ impl Table for Chunks<'_> {
 
     #[inline(always)]
     fn is_register(&self, v: usize) -> bool {
-        self.kind(v) == Kind::Register
+        self.kind(v).is_register()
     }
 }
 

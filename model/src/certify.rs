@@ -11,7 +11,7 @@ impl Record {
     pub fn first_fact(self) -> Fact {
         match self {
             Record::Input { kind, .. } => kind.fact(),
-            Record::Register { power_on, .. } => Fact::Always(power_on),
+            Record::Register { power_on, .. } | Record::Enabled { power_on, .. } => Fact::Always(power_on),
             _ => Fact::Open,
         }
     }

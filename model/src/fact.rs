@@ -66,7 +66,10 @@ impl Record {
             Record::Multiplexer { width, a, b, c } => {
                 multiplexer(store(a), store(b).narrow(width), store(c).narrow(width))
             }
-            Record::Register { width, a, power_on } => store(a).narrow(width).join(Fact::Always(power_on)),
+            Record::Register { width, a, power_on } => register(width, power_on, store(a)),
+            Record::Enabled { width, a, b, power_on } => {
+                enabled(store(b), power_on, register(width, power_on, store(a)))
+            }
         }
     }
 }
@@ -90,6 +93,25 @@ fn multiplexer(control: Fact, b: Fact, c: Fact) -> Fact {
         (Fact::Always(0), _) => c,
         (Fact::Always(_), _) => b,
         (Fact::Open, join) => join,
+        (Fact::Marked, Fact::Always(n)) => Fact::Always(n),
+        (Fact::Marked, _) => Fact::Marked,
+    }
+}
+
+/// The plain register's rule on A's fact.
+#[inline(always)]
+fn register(w: u32, power_on: u32, a: Fact) -> Fact {
+    a.narrow(w).join(Fact::Always(power_on))
+}
+
+/// Request S-2's rule of a register with an enable, on the enable's fact and the fact of the plain register's
+/// rule: enable always 0, always the power-on value; enable always another number or open, the plain
+/// register's rule; enable marked, that rule's fact if it is always, else marked.
+#[inline(always)]
+fn enabled(enable: Fact, power_on: u32, register: Fact) -> Fact {
+    match (enable, register) {
+        (Fact::Always(0), _) => Fact::Always(power_on),
+        (Fact::Always(_) | Fact::Open, fact) => fact,
         (Fact::Marked, Fact::Always(n)) => Fact::Always(n),
         (Fact::Marked, _) => Fact::Marked,
     }

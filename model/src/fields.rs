@@ -54,7 +54,7 @@ impl Fields {
         }
         let has_value = match kind {
             Kind::Input => self.choice == 0,
-            Kind::Constant | Kind::Register => true,
+            Kind::Constant | Kind::Register | Kind::Enabled => true,
             Kind::Operator | Kind::Multiplexer => false,
         };
         let is_used = |place: usize| place < kind.uses();
@@ -83,6 +83,7 @@ impl Fields {
             Kind::Operator => Record::Operator { width, operator: Operator::with_code(self.choice), a, b },
             Kind::Multiplexer => Record::Multiplexer { width, a, b, c },
             Kind::Register => Record::Register { width, a, power_on: n },
+            Kind::Enabled => Record::Enabled { width, a, b, power_on: n },
         }
     }
 }

@@ -1,10 +1,11 @@
-//! The reference model of document 01 and of request S-1, the price list, written from their definitions and
-//! not for speed.
+//! The reference model of document 01 and of two requests, S-1, the price list, and S-2, the register with an
+//! enable, written from their definitions and not for speed.
 //!
 //! In the document's order: `record` (kinds, operators, records), `fields` (the bytes of a record and their
 //! reading), `wires` (uses, loops, settling), `fact` (facts, rules, closed stores), `certify` (rounds, the
 //! certificate and its call), `machine` (power-on, poke, tick), `bench` (stimuli and the bench call) and
-//! `table` (the grounds that these calls share). From the request: `bill` (the bill of an order).
+//! `table` (the grounds that these calls share). Request S-2's kind of record stands among the five of the
+//! document in `record`, `fields`, `fact`, `machine` and `certify`. From S-1: `bill` (the bill of an order).
 //!
 //! The benchmark's variants read and evaluate records by what is here too. What they call again and again is
 //! always inlined, so that no call between the crates is timed.
@@ -32,7 +33,7 @@ pub use wires::{find_loop, settle, together};
 /// A refusal: the number of the ground on which work is turned down, and its place.
 #[derive(Debug, Clone, Copy, PartialEq, Eq)]
 pub struct Refusal {
-    /// The ground, numbered as in document 01 and the request.
+    /// The ground, numbered as in document 01 and the requests.
     pub ground: u32,
     /// The record for 5 to 10, the loop's length for 11, the stimulus for 14 to 17, the size for 19, else 0.
     pub place: usize,

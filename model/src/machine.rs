@@ -10,7 +10,7 @@ pub fn value(records: &[Record], state: &[u32], i: usize) -> u32 {
 
 impl Record {
     /// The value that the record, of variable i, gives from the state of which `state` gives each variable's
-    /// value. An input gives what it holds.
+    /// value. An input gives what it holds, and so does a register whose enable is 0.
     #[inline(always)]
     pub fn value(self, i: usize, state: impl Fn(usize) -> u32) -> u32 {
         match self {
@@ -22,6 +22,8 @@ impl Record {
                 remainder(state(taken), width)
             }
             Record::Register { width, a, .. } => remainder(state(a), width),
+            Record::Enabled { b, .. } if state(b) == 0 => state(i),
+            Record::Enabled { width, a, .. } => remainder(state(a), width),
         }
     }
 
@@ -31,7 +33,7 @@ impl Record {
     pub fn first_value(self) -> u32 {
         match self {
             Record::Input { kind: InputKind::Fixed(n), .. } => n,
-            Record::Register { power_on, .. } => power_on,
+            Record::Register { power_on, .. } | Record::Enabled { power_on, .. } => power_on,
             _ => 0,
         }
     }
@@ -51,7 +53,7 @@ pub fn poke(records: &[Record], state: &[u32], variable: usize, n: u32) -> Vec<u
 }
 
 /// The state after a tick: each register holds A's value from before the tick, narrowed, all together, and
-/// the wires follow.
+/// the wires follow. One with an enable that was 0 before the tick holds what it held.
 pub fn tick(records: &[Record], state: &[u32]) -> Vec<u32> {
     let stepped = together(records, state, Record::is_register, value);
     settle(records, &stepped, value)

@@ -1,5 +1,6 @@
 //! Document 01, "The table": a record is one of five kinds, an operator record carries one of nine
-//! operators, and an input is fixed, free or secret.
+//! operators, and an input is fixed, free or secret. Request S-2 has the sixth kind, the register with an
+//! enable.
 
 /// One of the nine operators on the values a and b of A and B.
 #[derive(Debug, Clone, Copy, PartialEq, Eq)]
@@ -96,7 +97,7 @@ impl InputKind {
     }
 }
 
-/// One of the five kinds of records.
+/// One of the six kinds of records.
 #[derive(Debug, Clone, Copy, PartialEq, Eq)]
 pub enum Kind {
     Input,
@@ -104,13 +105,15 @@ pub enum Kind {
     Operator,
     Multiplexer,
     Register,
+    /// A register with an enable.
+    Enabled,
 }
 
 impl Kind {
     /// How many there are.
-    pub(crate) const COUNT: u8 = 5;
+    pub(crate) const COUNT: u8 = 6;
 
-    /// The kind with this number, which is one of 0 to 4.
+    /// The kind with this number, which is one of 0 to 5.
     #[inline(always)]
     pub fn with_number(number: u8) -> Kind {
         match number {
@@ -118,7 +121,8 @@ impl Kind {
             1 => Kind::Constant,
             2 => Kind::Operator,
             3 => Kind::Multiplexer,
-            _ => Kind::Register,
+            4 => Kind::Register,
+            _ => Kind::Enabled,
         }
     }
 
@@ -128,7 +132,7 @@ impl Kind {
         match self {
             Kind::Input => InputKind::COUNT,
             Kind::Operator => Operator::BY_CODE.len() as u8,
-            Kind::Constant | Kind::Multiplexer | Kind::Register => 1,
+            Kind::Constant | Kind::Multiplexer | Kind::Register | Kind::Enabled => 1,
         }
     }
 
@@ -138,7 +142,7 @@ impl Kind {
         match self {
             Kind::Input | Kind::Constant => 0,
             Kind::Register => 1,
-            Kind::Operator => 2,
+            Kind::Operator | Kind::Enabled => 2,
             Kind::Multiplexer => 3,
         }
     }
@@ -148,9 +152,15 @@ impl Kind {
     pub fn is_wire(self) -> bool {
         matches!(self, Kind::Constant | Kind::Operator | Kind::Multiplexer)
     }
+
+    /// Whether its records are registers, with an enable or without.
+    #[inline(always)]
+    pub fn is_register(self) -> bool {
+        matches!(self, Kind::Register | Kind::Enabled)
+    }
 }
 
-/// A record read: one of five kinds, with its width, the variables A, B, C that it uses and its value n.
+/// A record read: one of six kinds, with its width, the variables A, B, C that it uses and its value n.
 #[derive(Debug, Clone, Copy, PartialEq, Eq)]
 pub enum Record {
     Input {
@@ -179,6 +189,13 @@ pub enum Record {
         a: usize,
         power_on: u32,
     },
+    /// A register whose data is A and whose enable is B.
+    Enabled {
+        width: u32,
+        a: usize,
+        b: usize,
+        power_on: u32,
+    },
 }
 
 impl Record {
@@ -190,6 +207,7 @@ impl Record {
             Record::Operator { .. } => Kind::Operator,
             Record::Multiplexer { .. } => Kind::Multiplexer,
             Record::Register { .. } => Kind::Register,
+            Record::Enabled { .. } => Kind::Enabled,
         }
     }
 
@@ -200,7 +218,8 @@ impl Record {
             | Record::Constant { width, .. }
             | Record::Operator { width, .. }
             | Record::Multiplexer { width, .. }
-            | Record::Register { width, .. } => width,
+            | Record::Register { width, .. }
+            | Record::Enabled { width, .. } => width,
         }
     }
 
@@ -208,7 +227,7 @@ impl Record {
     pub fn uses(&self) -> impl Iterator<Item = usize> {
         let variables = match *self {
             Record::Input { .. } | Record::Constant { .. } => [None; 3],
-            Record::Operator { a, b, .. } => [Some(a), Some(b), None],
+            Record::Operator { a, b, .. } | Record::Enabled { a, b, .. } => [Some(a), Some(b), None],
             Record::Multiplexer { a, b, c, .. } => [Some(a), Some(b), Some(c)],
             Record::Register { a, .. } => [Some(a), None, None],
         };
@@ -220,9 +239,9 @@ impl Record {
         self.kind().is_wire()
     }
 
-    /// Whether the record is a register.
+    /// Whether the record is a register, with an enable or without.
     pub fn is_register(&self) -> bool {
-        self.kind() == Kind::Register
+        self.kind().is_register()
     }
 }
 

@@ -1,20 +1,32 @@
-//! Document 01's cases A to M with their whole certificates, and bench runs worked by hand.
+//! Document 01's cases A to M and cases of registers with an enable, with their whole certificates, and bench
+//! runs worked by hand.
 
 mod common;
 
-use common::document_cases::document_cases;
+use common::document_cases::{document_cases, Case};
+use common::enable_cases::enable_cases;
 use common::hand_runs::hand_runs;
 use common::printed::printed_certificate;
 use common::{bench_longer, certify_longer};
 
-#[test]
-fn cases_a_to_m() {
-    for case in document_cases() {
+/// Asserts that the certifying call's answers are those of the cases.
+fn assert_certified(cases: Vec<Case>) {
+    for case in cases {
         for longer in [0, 1, 5] {
             let answer = certify_longer(&case.table, longer);
             assert_eq!(printed_certificate(&answer), case.printed, "case {}", case.name);
         }
     }
+}
+
+#[test]
+fn cases_a_to_m() {
+    assert_certified(document_cases());
+}
+
+#[test]
+fn registers_with_an_enable() {
+    assert_certified(enable_cases());
 }
 
 #[test]

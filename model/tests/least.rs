@@ -4,8 +4,9 @@
 
 mod common;
 
+use common::shapes::{register_ring, table_or_shape, turned};
 use common::tables::random_table;
-use common::{cases, certify_longer, constant, operator, register, secret, Random};
+use common::{cases, certify_longer, constant, enabled, operator, register, secret, Random};
 use model::{closed, read_records, rule, Fact, InputKind, Operator, Record};
 
 /// A fact in another form: always n is the number n, open and marked have none, and marked is secret.
@@ -64,7 +65,9 @@ fn result(operator: Operator, a: u32, b: u32, w: u32) -> u32 {
     (whole % power(w)) as u32
 }
 
-/// What the rule gives a variable from a store: nothing yet while an operand that it needs has nothing.
+/// What the rule gives a variable from a store: nothing yet while an operand that it needs has nothing. A
+/// register has its power-on value at least, and what it may load beside; one with an enable may load where
+/// that may be other than 0, and a secret tells whether it did where it holds one of several numbers.
 fn rule_from_below(record: &Record, store: &[Below]) -> Below {
     match *record {
         Record::Input { kind: InputKind::Fixed(n), .. } | Record::Constant { n, .. } => always(n),
@@ -89,6 +92,13 @@ fn rule_from_below(record: &Record, store: &[Below]) -> Below {
             }
         }
         Record::Register { width, a, power_on } => join(narrow(store[a], width), always(power_on)),
+        Record::Enabled { width, a, b, power_on } => {
+            let may_load = store[b].is_some_and(|enable| enable.number != Some(0));
+            let loaded = if may_load { narrow(store[a], width) } else { None };
+            let held = join(always(power_on), loaded)?;
+            let by_secret = held.number.is_none() && store[b].is_some_and(|enable| enable.secret);
+            Some(Known { secret: held.secret || by_secret, ..held })
+        }
     }
 }
 
@@ -146,18 +156,16 @@ fn random_fact(random: &mut Random, fact: Fact) -> Fact {
 /// for; the last two are equal.
 fn register_facts_by_round(records: &[Record]) -> Vec<Vec<Below>> {
     let start = records.iter().map(|record| match *record {
-        Record::Register { power_on, .. } => always(power_on),
+        Record::Register { power_on, .. } | Record::Enabled { power_on, .. } => always(power_on),
         _ => None,
     });
     let mut rounds: Vec<Vec<Below>> = vec![start.collect()];
     loop {
         let mut store = rounds[rounds.len() - 1].clone();
         (0..records.len()).for_each(|i| work_out(records, &mut store, i));
-        let next = records.iter().map(|record| match record {
-            Record::Register { .. } => rule_from_below(record, &store),
-            _ => None,
-        });
-        rounds.push(next.collect());
+        let next =
+            |record: &Record| if record.is_register() { rule_from_below(record, &store) } else { None };
+        rounds.push(records.iter().map(next).collect());
         if rounds[rounds.len() - 1] == rounds[rounds.len() - 2] {
             return rounds;
         }
@@ -189,9 +197,9 @@ fn the_certificate_is_the_least_closed_store_from_below() {
     let mut random = Random::of_test("least from below", 1);
     for _ in 0..cases(30_000) {
         let n = 1 + random.below(60);
-        let (records, _, facts) = certified(&random_table(&mut random, n, false));
+        let (records, _, facts) = certified(&table_or_shape(&mut random, n));
         assert!(closed(&records, &facts));
-        assert!((0..n).all(|i| facts[i] == rule(&records, &facts, i)));
+        assert!((0..records.len()).all(|i| facts[i] == rule(&records, &facts, i)));
         assert_eq!(facts, least_from_below(&mut random, &records));
     }
 }
@@ -223,7 +231,7 @@ fn every_closed_store_found_lies_at_or_above_the_certificate() {
     let mut random = Random::of_test("closed stores", 3);
     for _ in 0..cases(15_000) {
         let n = 1 + random.below(40);
-        let (records, _, facts) = certified(&random_table(&mut random, n, false));
+        let (records, _, facts) = certified(&table_or_shape(&mut random, n));
         for _ in 0..4 {
             let start = facts.iter().map(|&fact| random_fact(&mut random, fact));
             let start: Vec<Fact> = start.collect();
@@ -239,7 +247,7 @@ fn the_count_is_that_of_the_rounds_that_change_a_register() {
     let (mut longest, mut bound_met, tried) = (0, 0, cases(30_000));
     for _ in 0..tried {
         let n = 1 + random.below(40);
-        let (records, count, facts) = certified(&random_table(&mut random, n, false));
+        let (records, count, facts) = certified(&table_or_shape(&mut random, n));
         let rounds = register_facts_by_round(&records);
         assert_eq!(count as usize, rounds.len() - 2);
         for (i, below) in rounds[rounds.len() - 1].iter().enumerate() {
@@ -273,6 +281,29 @@ fn a_long_row_of_registers_takes_a_round_each() {
     let (_, count, facts) = certified(&table);
     assert_eq!(count, 999);
     assert!(facts.iter().all(|&fact| fact == Fact::Marked));
+}
+
+#[test]
+fn a_long_row_of_enables_takes_a_round_each() {
+    let row = |i: u16| enabled(8, 0, 999, i.saturating_sub(1));
+    let mut table: Vec<[u8; 16]> = (0..1000).map(row).collect();
+    (table[0], table[999]) = (secret(8), constant(8, 1));
+    let (_, count, facts) = certified(&table);
+    assert_eq!(count, 998);
+    assert!(facts[..999].iter().all(|&fact| fact == Fact::Marked));
+}
+
+#[test]
+fn a_ring_of_registers_takes_two_rounds_each() {
+    let mut random = Random::of_test("ring", 19);
+    for n in 4..100 {
+        let ring = register_ring(&mut random, n);
+        for table in [turned(&ring), ring] {
+            let (records, count, facts) = certified(&table);
+            assert_eq!(count as usize, 2 * count_registers(&records));
+            assert!((0..n).all(|i| !records[i].is_register() || facts[i] == Fact::Marked));
+        }
+    }
 }
 
 #[test]

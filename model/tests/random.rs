@@ -1,11 +1,16 @@
 //! Random tables and lists, well-formed and damaged: both calls refuse as each ground says when it is read
 //! alone, a shown row is a loop, an accepted table has none, the bench holds what a machine without stored
-//! wires holds, and the order of the records matters for nothing.
+//! wires holds, the order of the records matters for nothing, and a register with an enable does what a
+//! multiplexer and a register do.
 
 mod common;
 
+use common::shapes::table_or_shape;
 use common::tables::{damage, random_stimuli, random_table, renumbered};
-use common::{assert_shows_loop, bench_longer, bench_on, cases, certify_longer, certify_on, Random};
+use common::{
+    assert_shows_loop, bench_longer, bench_on, cases, certify_longer, certify_on, multiplexer, register,
+    Random, RecordBytes, Table,
+};
 use model::{read_records, settle, value, InputKind, Record};
 
 fn number(bytes: &[u8]) -> u64 {
@@ -18,23 +23,23 @@ fn holds_of_record(ground: u32, bytes: &[u8], records: usize) -> bool {
     let (a, b, c) = (number(&bytes[4..6]), number(&bytes[6..8]), number(&bytes[8..10]));
     let n = number(&bytes[12..16]);
     let missing = |variable: u64| variable >= records as u64;
-    let has_value = matches!((kind, choice), (0, 0) | (1, _) | (4, _));
+    let has_value = matches!((kind, choice), (0, 0) | (1, _) | (4, _) | (5, _));
     match ground {
-        5 => kind > 4,
+        5 => kind > 5,
         6 => width == 0 || width > 32,
         7 => !matches!((kind, choice), (0, 0..=2) | (2, 0..=8) | (_, 0)),
         8 => {
             let other_bytes = number(&[bytes[3], bytes[10], bytes[11]]);
             let unused = match kind {
                 0 | 1 => a + b + c,
-                2 => c,
+                2 | 5 => c,
                 3 => 0,
                 _ => b + c,
             };
             other_bytes != 0 || unused != 0 || (n != 0 && !has_value)
         }
         9 => match kind {
-            2 => missing(a) || missing(b),
+            2 | 5 => missing(a) || missing(b),
             3 => missing(a) || missing(b) || missing(c),
             4 => missing(a),
             _ => false,
@@ -129,7 +134,7 @@ fn values_without_stored_wires(records: &[Record], list: &[u8]) -> Vec<u32> {
     let start = records.iter().map(|record| match *record {
         Record::Input { kind: InputKind::Fixed(n), .. } => Some(n),
         Record::Input { .. } => Some(0),
-        Record::Register { power_on, .. } => Some(power_on),
+        Record::Register { power_on, .. } | Record::Enabled { power_on, .. } => Some(power_on),
         _ => None,
     });
     let mut stored: Vec<Option<u32>> = start.collect();
@@ -139,10 +144,15 @@ fn values_without_stored_wires(records: &[Record], list: &[u8]) -> Vec<u32> {
             continue;
         }
         let mut known = stored.clone();
+        let mut of = |variable: usize| value_of(records, &mut known, variable);
         for (i, record) in records.iter().enumerate() {
-            if let Record::Register { width, a, .. } = *record {
-                let n = u64::from(value_of(records, &mut known, a));
-                stored[i] = Some((n % (1 << width)) as u32);
+            let (width, taken) = match *record {
+                Record::Register { width, a, .. } => (width, Some(of(a))),
+                Record::Enabled { width, a, b, .. } => (width, (of(b) > 0).then(|| of(a))),
+                _ => continue,
+            };
+            if let Some(n) = taken {
+                stored[i] = Some((u64::from(n) % (1 << width)) as u32);
             }
         }
     }
@@ -166,6 +176,20 @@ fn value_of(records: &[Record], known: &mut [Option<u32>], i: usize) -> u32 {
     };
     known[i] = Some(n);
     n
+}
+
+/// The table in which a multiplexer and a register stand for each register with an enable. The register stays
+/// at its place, and the multiplexer that feeds it, behind the table, takes the data or what the register holds.
+fn without_enables(table: &[RecordBytes]) -> Table {
+    let mut plain = table.to_vec();
+    for (i, record) in read_records(table.as_flattened()).unwrap().into_iter().enumerate() {
+        if let Record::Enabled { width, a, b, power_on } = record {
+            let (w, fed_by) = (width as u8, plain.len() as u16);
+            plain[i] = register(w, power_on, fed_by);
+            plain.push(multiplexer(w, b as u16, a as u16, i as u16));
+        }
+    }
+    plain
 }
 
 #[test]
@@ -246,7 +270,7 @@ fn the_bench_holds_what_a_machine_without_stored_wires_holds() {
     let mut random = Random::of_test("values", 13);
     for _ in 0..cases(40_000) {
         let (n, length) = (1 + random.below(50), random.below(40));
-        let table = random_table(&mut random, n, false);
+        let table = table_or_shape(&mut random, n);
         let records = read_records(table.as_flattened()).unwrap();
         let list = random_stimuli(&mut random, &records, length);
         let values = bench_longer(table.as_flattened(), list.as_flattened(), 0);
@@ -293,5 +317,21 @@ fn the_order_of_the_records_matters_for_nothing() {
             (Err(one), Err(other)) => assert_eq!((one.ground, other.ground), (11, 11)),
             (one, other) => panic!("{one:?} and {other:?}"),
         }
+    }
+}
+
+#[test]
+fn a_register_with_an_enable_does_what_a_multiplexer_and_a_register_do() {
+    let mut random = Random::of_test("without enables", 20);
+    for _ in 0..cases(20_000) {
+        let (n, length) = (1 + random.below(40), random.below(30));
+        let table = table_or_shape(&mut random, n);
+        let (n, plain) = (table.len(), without_enables(&table));
+        let (table, plain) = (table.as_flattened(), plain.as_flattened());
+        let (count, facts) = certify_longer(plain, 0).unwrap();
+        assert_eq!(certify_longer(table, 0), Ok((count, facts[..n].to_vec())));
+        let list = random_stimuli(&mut random, &read_records(table).unwrap(), length);
+        let values = bench_longer(plain, list.as_flattened(), 0).unwrap();
+        assert_eq!(bench_longer(table, list.as_flattened(), 0), Ok(values[..n].to_vec()));
     }
 }

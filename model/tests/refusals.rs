@@ -3,12 +3,17 @@
 
 mod common;
 
-use common::samples::{one_of_each, CONSTANT, FIXED, FREE, MULTIPLEXER, OPERATOR, REGISTER, SECRET};
+use common::samples::{
+    one_of_each, CONSTANT, ENABLED, FIXED, FREE, MULTIPLEXER, OPERATOR, REGISTER, SECRET,
+};
 use common::{
-    bench_longer, bench_on, certify_longer, certify_on, constant, fixed, free, multiplexer, operator,
-    poke_bytes, record, register, RecordBytes, Refused, TICK,
+    bench_longer, bench_on, certify_longer, certify_on, constant, enabled, fixed, free, multiplexer,
+    operator, poke_bytes, record, register, RecordBytes, Refused, TICK,
 };
 use model::{is_loop, Operator::Add};
+
+/// The first variable number past the table of one record of each sort.
+const PAST: u8 = 8;
 
 /// The table of one record of each sort with changes: (record, byte, what the byte becomes).
 fn with(changes: &[(usize, usize, u8)]) -> Vec<u8> {
@@ -43,6 +48,7 @@ fn assert_bench_refused(table: &[u8], stimuli: &[u8], ground: u32, place: usize)
 
 #[test]
 fn one_record_of_each_sort_is_accepted() {
+    assert_eq!(one_of_each().len(), usize::from(PAST));
     assert!(certify_longer(&with(&[]), 0).is_ok());
     assert!(bench_longer(&with(&[]), &[], 0).is_ok());
 }
@@ -74,7 +80,7 @@ fn grounds_1_and_2_before_3_and_4() {
 
 #[test]
 fn ground_3_before_4_and_5() {
-    let damaged = with(&[(0, 0, 5)]);
+    let damaged = with(&[(0, 0, 6)]);
     for table in [with(&[]), damaged] {
         let n = table.len() / 16;
         for scratch in [0, n * 4 - 1, n * 4, n * 4 + 1] {
@@ -93,7 +99,7 @@ fn ground_3_before_4_and_5() {
 #[test]
 fn ground_4_before_5_and_11() {
     let loop_of_one = operator(Add, 1, 0, 0).to_vec();
-    for table in [with(&[]), with(&[(0, 0, 5)]), loop_of_one] {
+    for table in [with(&[]), with(&[(0, 0, 6)]), loop_of_one] {
         let n = table.len() / 16;
         for scratch in [0, n * 4 - 1] {
             for longer in [0, 7] {
@@ -109,8 +115,19 @@ fn ground_4_before_5_and_11() {
 #[test]
 fn ground_5() {
     for place in 0..one_of_each().len() {
-        for kind in [5, 6, 128, 255] {
+        for kind in [6, 7, 128, 255] {
             assert_refused(&with(&[(place, 0, kind)]), 5, place);
+        }
+    }
+}
+
+#[test]
+fn each_record_with_kind_5() {
+    for (place, ground) in (0..).zip([None, Some(7), Some(7), None, None, Some(8), None, None]) {
+        let table = with(&[(place, 0, 5)]);
+        match ground {
+            Some(ground) => assert_refused(&table, ground, place),
+            None => assert!(certify_longer(&table, 0).is_ok()),
         }
     }
 }
@@ -126,7 +143,8 @@ fn ground_6() {
 
 #[test]
 fn widths_1_and_32_are_accepted() {
-    for table in [fixed(1, 1), constant(32, u32::MAX), register(1, 1, 0), free(32)] {
+    let records = [fixed(1, 1), constant(32, u32::MAX), register(1, 1, 0), free(32)];
+    for table in records.into_iter().chain([enabled(1, 1, 0, 0), enabled(32, u32::MAX, 0, 0)]) {
         assert!(certify_longer(&table, 0).is_ok());
     }
 }
@@ -171,7 +189,8 @@ fn ground_8_unused_variable_numbers_and_values() {
             (1, _) => (4, true),
             (2, _) => (8, false),
             (3, _) => (10, false),
-            _ => (6, true),
+            (4, _) => (6, true),
+            _ => (8, true),
         };
         for byte in (first_unused..10).chain(if has_value { 16..16 } else { 12..16 }) {
             for becomes in [1, 128, 255] {
@@ -189,31 +208,46 @@ fn a_value_is_unused_once_a_fixed_input_is_free_or_secret() {
 }
 
 #[test]
+fn ground_8_an_unused_variable_number_past_the_table() {
+    for (place, byte) in [(OPERATOR, 8), (REGISTER, 6), (REGISTER, 8), (ENABLED, 8)] {
+        for number in [PAST, 255] {
+            assert_refused(&with(&[(place, byte, number)]), 8, place);
+            assert_refused(&with(&[(place, byte, number), (place, 4, PAST)]), 8, place);
+        }
+    }
+}
+
+#[test]
 fn ground_9() {
-    let n = one_of_each().len() as u8;
-    let used = [(OPERATOR, &[4, 6][..]), (MULTIPLEXER, &[4, 6, 8]), (REGISTER, &[4])];
+    let used = [(OPERATOR, &[4, 6][..]), (MULTIPLEXER, &[4, 6, 8]), (REGISTER, &[4]), (ENABLED, &[4, 6])];
     for (place, bytes) in used {
         for &byte in bytes {
-            assert_refused(&with(&[(place, byte, n)]), 9, place);
+            assert_refused(&with(&[(place, byte, PAST)]), 9, place);
             assert_refused(&with(&[(place, byte, 255)]), 9, place);
             assert_refused(&with(&[(place, byte + 1, 1)]), 9, place);
         }
     }
-    assert!(certify_longer(&with(&[(REGISTER, 4, n - 1)]), 0).is_ok());
+    for (place, byte) in [(REGISTER, 4), (ENABLED, 4), (ENABLED, 6)] {
+        assert!(certify_longer(&with(&[(place, byte, PAST - 1)]), 0).is_ok());
+    }
 }
 
 #[test]
 fn ground_9_in_the_longest_table() {
     let mut records = vec![free(1); 4096];
-    records[4095] = register(1, 0, 4095);
-    assert!(certify_longer(records.as_flattened(), 0).is_ok());
-    records[4095] = register(1, 0, 4096);
-    assert_refused(records.as_flattened(), 9, 4095);
+    for last in [register(1, 0, 4095), enabled(1, 0, 4095, 4095)] {
+        records[4095] = last;
+        assert!(certify_longer(records.as_flattened(), 0).is_ok());
+    }
+    for last in [register(1, 0, 4096), enabled(1, 0, 4096, 4095), enabled(1, 0, 4095, 4096)] {
+        records[4095] = last;
+        assert_refused(records.as_flattened(), 9, 4095);
+    }
 }
 
 #[test]
 fn ground_10() {
-    for place in [FIXED, CONSTANT, REGISTER] {
+    for place in [FIXED, CONSTANT, REGISTER, ENABLED] {
         assert!(certify_longer(&with(&[(place, 12, 15)]), 0).is_ok());
         assert_refused(&with(&[(place, 12, 16)]), 10, place);
         for byte in 13..16 {
@@ -226,24 +260,26 @@ fn ground_10() {
 
 #[test]
 fn the_first_of_two_grounds_on_one_record() {
-    let (kind, width, choice) = ((REGISTER, 0, 5), (REGISTER, 1, 0), (REGISTER, 2, 1));
-    let (zero, variable, value) = ((REGISTER, 3, 1), (REGISTER, 4, 7), (REGISTER, 12, 16));
-    let by_ground = [kind, width, choice, zero, variable, value];
-    for earlier in 0..6 {
-        for later in earlier + 1..6 {
-            let table = with(&[by_ground[later], by_ground[earlier]]);
-            assert_refused(&table, 5 + earlier as u32, REGISTER);
+    for (place, zero, variable) in [(REGISTER, 3, 4), (ENABLED, 3, 4), (ENABLED, 8, 6)] {
+        let changes = [(0, 6), (1, 0), (2, 1), (zero, 1), (variable, PAST), (12, 16)];
+        let by_ground = changes.map(|(byte, becomes)| (place, byte, becomes));
+        for earlier in 0..6 {
+            for later in earlier + 1..6 {
+                let table = with(&[by_ground[later], by_ground[earlier]]);
+                assert_refused(&table, 5 + earlier as u32, place);
+            }
         }
+        assert_refused(&with(&by_ground), 5, place);
     }
-    assert_refused(&with(&by_ground), 5, REGISTER);
-    assert_refused(&with(&[(OPERATOR, 8, 1), (OPERATOR, 4, 7)]), 8, OPERATOR);
-    assert_refused(&with(&[(MULTIPLEXER, 12, 1), (MULTIPLEXER, 8, 7)]), 8, MULTIPLEXER);
+    assert_refused(&with(&[(OPERATOR, 8, 1), (OPERATOR, 4, PAST)]), 8, OPERATOR);
+    assert_refused(&with(&[(MULTIPLEXER, 12, 1), (MULTIPLEXER, 8, PAST)]), 8, MULTIPLEXER);
 }
 
 #[test]
 fn an_earlier_record_before_an_earlier_ground() {
-    assert_refused(&with(&[(FIXED, 12, 16), (FREE, 0, 5)]), 10, FIXED);
-    assert_refused(&with(&[(MULTIPLEXER, 8, 7), (REGISTER, 1, 0)]), 9, MULTIPLEXER);
+    assert_refused(&with(&[(FIXED, 12, 16), (FREE, 0, 6)]), 10, FIXED);
+    assert_refused(&with(&[(MULTIPLEXER, 8, PAST), (REGISTER, 1, 0)]), 9, MULTIPLEXER);
+    assert_refused(&with(&[(REGISTER, 12, 16), (ENABLED, 0, 6)]), 10, REGISTER);
     assert_refused(&with(&[(FREE, 3, 1), (OPERATOR, 2, 9)]), 8, FREE);
 }
 
@@ -296,6 +332,18 @@ fn a_register_breaks_a_loop() {
     assert!(certify_longer(records.as_flattened(), 0).is_ok());
     assert!(!is_loop(records.as_flattened(), &[0, 1]));
     assert!(!is_loop(records.as_flattened(), &[1, 0]));
+}
+
+#[test]
+fn a_register_with_an_enable_breaks_a_loop() {
+    for (a, b) in [(0, 2), (2, 0), (0, 0)] {
+        let records = [operator(Add, 4, 1, 2), enabled(4, 0, a, b), free(4)];
+        assert!(certify_longer(records.as_flattened(), 0).is_ok());
+        for row in [&[0][..], &[1], &[0, 1], &[1, 0]] {
+            assert!(!is_loop(records.as_flattened(), row));
+        }
+    }
+    assert!(certify_longer(&enabled(4, 0, 0, 0), 0).is_ok());
 }
 
 #[test]
@@ -354,7 +402,8 @@ fn ground_14_before_15() {
 
 #[test]
 fn ground_15_before_16() {
-    for variable in [CONSTANT, OPERATOR, MULTIPLEXER, REGISTER, one_of_each().len(), 65_535] {
+    let no_inputs = [CONSTANT, OPERATOR, MULTIPLEXER, REGISTER, ENABLED];
+    for variable in no_inputs.into_iter().chain([usize::from(PAST), 65_535]) {
         for n in [0, 15, 16, u32::MAX] {
             assert_bench_refused(&with(&[]), &poke_bytes(variable as u16, n), 15, 0);
         }
@@ -389,7 +438,8 @@ fn ground_17() {
 
 #[test]
 fn an_earlier_stimulus_before_an_earlier_ground() {
-    let grounds = [(14, [3; 8]), (15, poke_bytes(7, 0)), (16, poke_bytes(1, 16)), (17, poke_bytes(0, 8))];
+    let grounds =
+        [(14, [3; 8]), (15, poke_bytes(PAST.into(), 0)), (16, poke_bytes(1, 16)), (17, poke_bytes(0, 8))];
     for (ground, first) in grounds {
         for (_, second) in grounds {
             let stimuli = [TICK, first, second];

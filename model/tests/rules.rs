@@ -1,9 +1,9 @@
 //! The order of facts, the operators and the rules of multiplexers and registers, each held against the
-//! words of document 01 by example or over all of a small range.
+//! words of document 01, or of request S-2, by example or over all of a small range.
 
 mod common;
 
-use common::{bench_longer, fixed, free, multiplexer, operator, poke_bytes, register, TICK};
+use common::{bench_longer, enabled, fixed, free, multiplexer, operator, poke_bytes, register, TICK};
 use model::Fact::{self, Always, Marked, Open};
 use model::{closed, fits, read_records, remainder, rule, Operator, Operator::*};
 
@@ -159,6 +159,62 @@ fn the_register_rule() {
 }
 
 #[test]
+fn the_rule_of_a_register_with_an_enable() {
+    let records = [free(8), free(8), enabled(2, 1, 0, 1)];
+    let records = read_records(records.as_flattened()).unwrap();
+    for (enable, a, fact) in [
+        (Always(0), Always(5), Always(1)),
+        (Always(0), Always(6), Always(1)),
+        (Always(0), Open, Always(1)),
+        (Always(0), Marked, Always(1)),
+        (Always(1), Always(5), Always(1)),
+        (Always(1), Always(6), Open),
+        (Always(1), Open, Open),
+        (Always(1), Marked, Marked),
+        // The enable is not narrowed.
+        (Always(4), Always(6), Open),
+        (Always(4), Marked, Marked),
+        (Open, Always(5), Always(1)),
+        (Open, Always(6), Open),
+        (Open, Open, Open),
+        (Open, Marked, Marked),
+        (Marked, Always(5), Always(1)),
+        (Marked, Always(6), Marked),
+        (Marked, Open, Marked),
+        (Marked, Marked, Marked),
+    ] {
+        // What the register has already counts for nothing.
+        for own in FACTS {
+            assert_eq!(rule(&records, &[a, enable, own], 2), fact, "{enable:?} {a:?}");
+        }
+    }
+}
+
+#[test]
+fn every_rule_is_monotone() {
+    let pairs = FACTS.into_iter().flat_map(|a| FACTS.map(|b| (a, b)));
+    let stores: Vec<[Fact; 4]> = pairs.flat_map(|(a, b)| FACTS.map(|c| [a, b, c, Open])).collect();
+    let used = [free(8), free(8), free(8)];
+    for record in [
+        operator(Less, 8, 0, 1),
+        multiplexer(2, 0, 1, 2),
+        register(2, 1, 0),
+        enabled(2, 1, 0, 1),
+        enabled(2, 0, 0, 1),
+        enabled(2, 1, 0, 0),
+    ] {
+        let records = [&used[..], &[record]].concat();
+        let records = read_records(records.as_flattened()).unwrap();
+        for lower in &stores {
+            let above = |upper: &&[Fact; 4]| (0..3).all(|i| lower[i].at_or_below(upper[i]));
+            for upper in stores.iter().filter(above) {
+                assert!(rule(&records, lower, 3).at_or_below(rule(&records, upper, 3)), "{record:?}");
+            }
+        }
+    }
+}
+
+#[test]
 fn closed_stores() {
     let records = [free(8), register(2, 1, 0)];
     let records = read_records(records.as_flattened()).unwrap();
@@ -171,12 +227,39 @@ fn closed_stores() {
 }
 
 #[test]
+fn closed_stores_with_an_enable() {
+    let records = [free(8), fixed(8, 0), enabled(2, 1, 0, 1)];
+    let records = read_records(records.as_flattened()).unwrap();
+    assert!(closed(&records, &[Marked, Always(0), Always(1)]));
+    assert!(closed(&records, &[Marked, Always(0), Open]));
+    assert!(!closed(&records, &[Marked, Always(0), Always(0)]));
+    assert!(!closed(&records, &[Marked, Open, Open]));
+    assert!(!closed(&records, &[Open, Open, Always(1)]));
+    assert!(closed(&records, &[Open, Open, Open]));
+    assert!(!closed(&records, &[Open, Marked, Open]));
+    assert!(closed(&records, &[Open, Marked, Marked]));
+}
+
+#[test]
 fn a_tick_moves_all_registers_together() {
     let table = [register(8, 1, 1), register(8, 2, 0), register(1, 0, 1)];
     let after = |ticks| bench_longer(table.as_flattened(), &TICK.repeat(ticks), 0).unwrap();
     assert_eq!(after(0), [1, 2, 0]);
     assert_eq!(after(1), [2, 1, 0]);
     assert_eq!(after(2), [1, 2, 1]);
+}
+
+#[test]
+fn a_tick_with_every_enable() {
+    for (a, b) in (0..16).flat_map(|a| (0..16).map(move |b| (a, b))) {
+        for power_on in 0..4 {
+            let table = [free(4), free(4), enabled(2, power_on, 0, 1)];
+            let stimuli = [poke_bytes(0, a), poke_bytes(1, b), TICK];
+            let held = if b == 0 { power_on } else { a % 4 };
+            let values = bench_longer(table.as_flattened(), stimuli.as_flattened(), 0);
+            assert_eq!(values, Ok(vec![a, b, held]));
+        }
+    }
 }
 
 #[test]

@@ -22,6 +22,7 @@ use circuit::table::width_at;
 use fact::Fact;
 use fact::cell::load;
 use fact::cell::store;
+use fact::enabled_rule;
 use fact::input_rule;
 use fact::multiplexer_rule;
 use fact::operator_rule;
@@ -36,6 +37,7 @@ fn initial_fact(r: Record) -> Fact
         Record::Operator(_, _, _, _) => Fact::Open,
         Record::Multiplexer(_, _, _, _) => Fact::Open,
         Record::Register(_, _, n) => Fact::Always(n),
+        Record::Enabled(_, _, _, n) => Fact::Always(n),
     }
 }
 
@@ -80,12 +82,23 @@ fn wire_fact(t: &[u8], n: usize, cells: &[u8], v: usize) -> Fact
     }
 }
 
-// What register v's rule gives.
+// What register v's rule gives. One that is not of kind 4 has an enable.
 pub fn register_fact(t: &[u8], n: usize, cells: &[u8], v: usize) -> Fact
     requires { ⌜ Evaluable facts net.register (now t) n (now cells) v ⌝ }
     ensures { λ r. ⌜ r ≡ rule (circuit (now (t .entry)) n) (factAt (now (cells .entry))) v ⌝ }
 {
-    register_rule(width_at(t, v), value_at(t, v), load(cells, a_at(t, v)))
+    let kind = kind_at(t, v);
+    match kind {
+        4 => register_rule(width_at(t, v), value_at(t, v), load(cells, a_at(t, v))),
+        _ => {
+            enabled_rule(
+                width_at(t, v),
+                value_at(t, v),
+                load(cells, a_at(t, v)),
+                load(cells, b_at(t, v)),
+            )
+        }
+    }
 }
 
 // The wires take their facts, one after the other along their order.

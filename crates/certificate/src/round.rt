@@ -1,11 +1,13 @@
 // A round's registers: their next facts are staged, all from the same store, and then written together.
 ghost use mathlib.Core.Path.{_≡_};
 ghost use mathlib.Core.Bool.{not, _||_};
-ghost use Prim.Native.Nat.{_+_};
+ghost use Prim.Native.Nat.{_+_, _*_, _≤_};
+ghost use lib.ListN.{length};
 ghost use Rattle.net.specs.Tests.{allBelow};
 ghost use Rattle.net.specs.Net.{step};
 ghost use Rattle.buffer.specs.Kept.{KeptOutside};
-ghost use Rattle.buffer.specs.Store.{numbers, Stands, Holds, Moves};
+ghost use Rattle.buffer.specs.Store.{numbers, Wrote, Stands, Holds, Moves};
+ghost use Rattle.circuit.specs.Reading.{fieldsAt};
 ghost use Rattle.circuit.specs.Circuit.{circuit, graph};
 ghost use Rattle.fact.specs.Fact.{same, factOf, factAt};
 ghost use Rattle.fact.specs.Cells.{facts};
@@ -84,15 +86,18 @@ pub fn stage(
     changed
 }
 
-// The fact of a register's staged byte: a register that is always one number is always its power-on value n.
-fn staged_fact(n: u32, byte: u16) -> Fact
-    ensures { λ f. ⌜ f ≡ factOf byte n ⌝ }
+// Writes the fact of register v's staged byte: a register that is always one number is always its power-on value.
+fn write_staged(t: &[u8], v: usize, byte: u16, cells: &mut [u8])
+    requires { ⌜ v * 16 + 16 ≤ length (now t) ⌝ }
+    requires { ⌜ v * 8 + 8 ≤ length (now cells) ⌝ }
+    ensures { λ _. ⌜ Wrote facts (now (cells .entry)) (now (cells .exit)) (v * 8)
+        (factOf byte (fieldsAt (now (t .entry)) (v * 16) .value)) ⌝ }
 {
     match byte {
-        0 => Fact::MARKED,
-        1 => Fact::Always(n),
-        2 => Fact::Open,
-        3..=65535 => Fact::MARKED,
+        0 => store(cells, v, Fact::MARKED),
+        1 => store(cells, v, Fact::Always(value_at(t, v))),
+        2 => store(cells, v, Fact::Open),
+        3..=65535 => store(cells, v, Fact::MARKED),
     }
 }
 
@@ -106,8 +111,7 @@ pub fn commit(t: &[u8], n: usize, scratch: &[u16], first: usize, registers: usiz
     let mut j: usize = 0;
     while j < registers {
         let v = wide(scratch[first + j]);
-        let f = staged_fact(value_at(t, v), scratch[n + j]);
-        store(cells, v, f);
+        write_staged(t, v, scratch[n + j], cells);
         j += 1;
     }
 }

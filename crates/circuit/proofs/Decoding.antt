@@ -1,19 +1,22 @@
 -- What a record's fields decode to, by the kind byte.
 -- Assumes nothing.
-use mathlib.Core.Path.{_≡_, refl, ap}
+use mathlib.Core.Path.{_≡_, refl, ap, _∙_}
 use mathlib.Core.List.{List, [], _∷_}
 use Prim.Native.Nat.{ℕ, zero, suc, _+_, _*_, _/_, _%_, _^_, _≤_, _<_}
 use native.Mathlib.Omega.{arith}
-use borrow.Author.Tests.{le-leb}
+use borrow.Author.Tests.{le-leb, leb-true}
 use lib.Dec.{leb}
 use lib.ListN.{getD, List·getD-eq-default}
 use Rattle.net.specs.Net.{Role, input, wire, register}
+use Rattle.net.proofs.Cases.{by-same}
 use Rattle.circuit.specs.declared.record.Fields.{Fields}
-use Rattle.circuit.specs.declared.record.Record.the-variants.{Input, Constant, Operator, Multiplexer, Register}
+use Rattle.circuit.specs.declared.record.Record.the-variants.{Input, Constant, Operator, Multiplexer, Register, Enabled}
 use Rattle.circuit.specs.Number.{u16At}
 use Rattle.circuit.specs.Operator.{operatorOf}
 use Rattle.circuit.specs.Record.{width, uses, role, wireUses, isRegister}
 use Rattle.circuit.specs.Reading.{fieldsAt, inputKindOf, firstKinds, decode}
+use Rattle.circuit.specs.Machine.{initial}
+use Rattle.circuit.proofs.Bytes.{past}
 
 module _ (f : Fields) where
   pub decode-input : f .kind ≡ 0 → decode f ≡ Input (f .width) (inputKindOf (f .code) (f .value))
@@ -32,16 +35,22 @@ module _ (f : Fields) where
   unfolding decode
   decode-multiplexer e = rw e
 
-  pub decode-register : 4 ≤ f .kind → decode f ≡ Register (f .width) (f .a) (f .value)
+  pub decode-register : f .kind ≡ 4 → decode f ≡ Register (f .width) (f .a) (f .value)
   unfolding decode
-  decode-register h = List·getD-eq-default (firstKinds f) (Register (f .width) (f .a) (f .value)) h
+  decode-register e = rw e
 
-pub by-kind : {P : Type 0} (k : ℕ) → (k ≡ 0 → P) → (k ≡ 1 → P) → (k ≡ 2 → P) → (k ≡ 3 → P) → (4 ≤ k → P) → P
-by-kind zero a b c d e = a refl
-by-kind (suc zero) a b c d e = b refl
-by-kind (suc (suc zero)) a b c d e = c refl
-by-kind (suc (suc (suc zero))) a b c d e = d refl
-by-kind (suc (suc (suc (suc k)))) a b c d e = e (omega arith)
+  pub decode-enabled : 5 ≤ f .kind → decode f ≡ Enabled (f .width) (f .a) (f .b) (f .value)
+  unfolding decode
+  decode-enabled h = List·getD-eq-default (firstKinds f) (Enabled (f .width) (f .a) (f .b) (f .value)) h
+
+pub by-kind : {P : Type 0} (k : ℕ) → (k ≡ 0 → P) → (k ≡ 1 → P) → (k ≡ 2 → P) → (k ≡ 3 → P) → (k ≡ 4 → P)
+    → (5 ≤ k → P) → P
+by-kind zero a b c d e f = a refl
+by-kind (suc zero) a b c d e f = b refl
+by-kind (suc (suc zero)) a b c d e f = c refl
+by-kind (suc (suc (suc zero))) a b c d e f = d refl
+by-kind (suc (suc (suc (suc zero)))) a b c d e f = e refl
+by-kind (suc (suc (suc (suc (suc k))))) a b c d e f = f (omega arith)
 
 pub wireUses-most : (f : Fields) → wireUses (decode f) ≤ 4
 wireUses-most f =
@@ -50,17 +59,19 @@ wireUses-most f =
     (λ e. rw (decode-constant f e) (omega arith))
     (λ e. rw (decode-operator f e) (omega arith))
     (λ e. rw (decode-multiplexer f e) (omega arith))
-    (λ h. rw (decode-register f h) (omega arith))
+    (λ e. rw (decode-register f e) (omega arith))
+    (λ h. rw (decode-enabled f h) (omega arith))
 
 -- the digits of base 16 from which the code takes it
-pub wireUses-digit : (f : Fields) → f .kind ≤ 4 → 17168 / 2 ^ (f .kind * 4) % 16 ≡ wireUses (decode f)
+pub wireUses-digit : (f : Fields) → f .kind ≤ 5 → 17168 / 2 ^ (f .kind * 4) % 16 ≡ wireUses (decode f)
 wireUses-digit f h =
     by-kind (f .kind)
     (λ e. rw (decode-input f e, e))
     (λ e. rw (decode-constant f e, e))
     (λ e. rw (decode-operator f e, e))
     (λ e. rw (decode-multiplexer f e, e))
-    (λ g. let e : f .kind ≡ 4 = omega arith in rw (decode-register f g, e))
+    (λ e. rw (decode-register f e, e))
+    (λ g. let e : f .kind ≡ 5 = omega arith in rw (decode-enabled f g, e))
 
 role-differs : (x y : Role) → x ≡ y → (x ≡ y → _≡_ {A = ℕ} 0 1) → ⊥
 role-differs x y e z = absurd (let q : _≡_ {A = ℕ} 0 1 = z e in omega arith)
@@ -75,15 +86,7 @@ wire-multiplexer f e one two =
     (λ k. absurd (two k))
     (λ k. decode-multiplexer f k)
     (λ k. absurd (role-differs register wire (rw (decode-register f k) at e) (λ z. cc)))
-
-pub register-decoded : (f : Fields) → role (decode f) ≡ register → decode f ≡ Register (f .width) (f .a) (f .value)
-register-decoded f e =
-    by-kind (f .kind)
-    (λ k. absurd (role-differs input register (rw (decode-input f k) at e) (λ z. cc)))
-    (λ k. absurd (role-differs wire register (rw (decode-constant f k) at e) (λ z. cc)))
-    (λ k. absurd (role-differs wire register (rw (decode-operator f k) at e) (λ z. cc)))
-    (λ k. absurd (role-differs wire register (rw (decode-multiplexer f k) at e) (λ z. cc)))
-    (λ k. decode-register f k)
+    (λ k. absurd (role-differs register wire (rw (decode-enabled f k) at e) (λ z. cc)))
 
 -- the variables that a wire uses stand two bytes apart
 pub use-number : (t : List ℕ) (at k : ℕ) → k + 1 < wireUses (decode (fieldsAt t at))
@@ -95,6 +98,7 @@ use-number t at k h =
     (λ e. rw (decode-operator f e) (two k (rw (decode-operator f e) at h)))
     (λ e. rw (decode-multiplexer f e) (three k (rw (decode-multiplexer f e) at h)))
     (λ e. absurd (none (rw (decode-register f e) at h)))
+    (λ e. absurd (none (rw (decode-enabled f e) at h)))
   where
     f : Fields
     f = fieldsAt t at
@@ -123,7 +127,21 @@ register-test f =
     (λ e. rw (decode-constant f e, e))
     (λ e. rw (decode-operator f e, e))
     (λ e. rw (decode-multiplexer f e, e))
-    (λ h. rw (decode-register f h) (le-leb 4 (f .kind) h))
+    (λ e. rw (decode-register f e, e))
+    (λ h. rw (decode-enabled f h) (le-leb 4 (f .kind) (omega arith)))
+
+register-kind : (f : Fields) → role (decode f) ≡ register → 4 ≤ f .kind
+register-kind f e = leb-true 4 (f .kind) (register-test f ∙ rw (e, isRegister))
+
+-- a register that is not of kind 4 has an enable
+pub register-enabled : (f : Fields) → role (decode f) ≡ register → (f .kind ≡ 4 → ⊥)
+    → decode f ≡ Enabled (f .width) (f .a) (f .b) (f .value)
+register-enabled f e four = decode-enabled f (past (f .kind) 4 (register-kind f e) four)
+
+-- a register's power-on value is its record's
+pub register-initial : (f : Fields) → role (decode f) ≡ register → initial (decode f) ≡ f .value
+register-initial f e =
+    by-same (f .kind) 4 (λ k. ap initial (decode-register f k)) (λ k. ap initial (register-enabled f e k))
 
 pub decode-width : (f : Fields) → width (decode f) ≡ f .width
 decode-width f =
@@ -132,4 +150,5 @@ decode-width f =
     (λ e. ap width (decode-constant f e))
     (λ e. ap width (decode-operator f e))
     (λ e. ap width (decode-multiplexer f e))
-    (λ h. ap width (decode-register f h))
+    (λ e. ap width (decode-register f e))
+    (λ h. ap width (decode-enabled f h))

@@ -2,8 +2,9 @@
 -- Assumes nothing.
 use mathlib.Core.Path.{_≡_}
 use Prim.Native.Nat.{ℕ, _%_, _^_}
+use borrow.Author.Tests.{ne-eqb}
 use Rattle.circuit.specs.declared.operator.Operator as operator
-use Rattle.circuit.specs.declared.record.Record.the-variants.{Constant, Operator, Multiplexer, Register}
+use Rattle.circuit.specs.declared.record.Record.the-variants.{Constant, Operator, Multiplexer, Register, Enabled}
 use Rattle.circuit.specs.Operator.{operatorCode, resultOfCode}
 use Rattle.circuit.specs.Circuit.{Circuit, recordOf}
 use Rattle.circuit.specs.Machine.{multiplex, value, values}
@@ -27,3 +28,11 @@ module _ (c : Circuit) (v : ℕ) (s : ℕ → ℕ) where
   pub register-value : (w a n : ℕ) → recordOf c v ≡ Register w a n → s a % 2 ^ w ≡ values c s v
   unfolding values
   register-value w a n e = rw (e, value)
+
+  pub held-value : (w a b n : ℕ) → recordOf c v ≡ Enabled w a b n → s b ≡ 0 → s v ≡ values c s v
+  unfolding values
+  held-value w a b n e zero = rw (e, value, zero)
+
+  pub taken-value : (w a b n : ℕ) → recordOf c v ≡ Enabled w a b n → (s b ≡ 0 → ⊥) → s a % 2 ^ w ≡ values c s v
+  unfolding values
+  taken-value w a b n e some = rw (e, value, ne-eqb (s b) 0 some)

@@ -81,12 +81,12 @@ module _ (byte : ℕ) where
   kind-differ : (x : Kind) → read-kind.Is x ≡ read-kind.None → ⊥
   kind-differ x e = let z : _≡_ {A = ℕ} 0 1 = cc in omega arith
 
-  pub kind-none : readKind byte ≡ read-kind.None → 5 ≤ byte
-  kind-none e = lookup-none read-kind.Is read-kind.None kind-same kind-differ kinds byte kind.Register e .0
+  pub kind-none : readKind byte ≡ read-kind.None → 6 ≤ byte
+  kind-none e = lookup-none read-kind.Is read-kind.None kind-same kind-differ kinds byte kind.Enabled e .0
 
-pub kind-is : (byte : ℕ) (k : Kind) → readKind byte ≡ read-kind.Is k → (byte ≤ 4) × (kindNumber k ≡ byte)
+pub kind-is : (byte : ℕ) (k : Kind) → readKind byte ≡ read-kind.Is k → (byte ≤ 5) × (kindNumber k ≡ byte)
 unfolding listBelow
 kind-is byte k e =
     let (h, q) =
-    lookup-is read-kind.Is read-kind.None (kind-same byte) (kind-differ byte) kinds byte kind.Register k e in
-    (omega arith, ap kindNumber (sym q) ∙ in-order kindNumber kinds byte kind.Register refl h)
+    lookup-is read-kind.Is read-kind.None (kind-same byte) (kind-differ byte) kinds byte kind.Enabled k e in
+    (omega arith, ap kindNumber (sym q) ∙ in-order kindNumber kinds byte kind.Enabled refl h)

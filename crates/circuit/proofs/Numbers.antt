@@ -23,7 +23,7 @@ use Rattle.circuit.specs.declared.record.InputKind.{InputKind}
 use Rattle.circuit.specs.declared.record.InputKind.the-variants.{Fixed, Free, Secret}
 use Rattle.circuit.specs.declared.record.ReadInput.the-variants as read-input
 use Rattle.circuit.specs.declared.record.Record.{Record}
-use Rattle.circuit.specs.declared.record.Record.the-variants.{Input, Constant, Operator, Multiplexer, Register}
+use Rattle.circuit.specs.declared.record.Record.the-variants.{Input, Constant, Operator, Multiplexer, Register, Enabled}
 use Rattle.circuit.specs.declared.record.ReadRecord.the-variants as read-record
 use Rattle.circuit.specs.declared.stimulus.ReadStimulus.the-variants as read-stimulus
 use Rattle.circuit.specs.Number.{u16At, u32At}
@@ -32,7 +32,7 @@ use Rattle.circuit.specs.Reading.{kindNumber, readKind, inputCode, input
 use Rattle.circuit.specs.Stimuli.{stimulusKind, stimulusVariable, stimulusValue, stimulusOf, badNumbers, readFrom, readStimulus}
 use Rattle.circuit.proofs.Lookups.{in-order, kind-is, operator-is, input-is}
 use Rattle.circuit.proofs.Operators.{code-reads}
-use Rattle.circuit.proofs.Decoding.{by-kind, decode-input, decode-constant, decode-operator, decode-multiplexer, decode-register}
+use Rattle.circuit.proofs.Decoding.{by-kind, decode-input, decode-constant, decode-operator, decode-multiplexer, decode-register, decode-enabled}
 use Rattle.circuit.proofs.Stimuli.{both-true}
 use Rattle.circuit.proofs.Records.{Valid, decode-encode, both-false, read-valid, accepted}
 
@@ -49,6 +49,7 @@ number-kind kind.Constant = refl
 number-kind kind.Operator = refl
 number-kind kind.Multiplexer = refl
 number-kind kind.Register = refl
+number-kind kind.Enabled = refl
 
 pub kind-read : ReadBy readKind read-kind.Is kindNumber
 kind-read byte k = (λ e. sym (kind-is byte k e .1), λ e. rw e (number-kind k))
@@ -163,11 +164,15 @@ module _ (f : Fields) (n : ℕ) (v : Valid f n) where
       let z = zeros _ (decode-multiplexer f k) in
       let few : f .code < 1 = rw k at (v .code) in
       rw (decode-multiplexer f k) (same-fields k (omega arith) refl refl refl (z 2) (z 0) (z 1)))
-      (λ h.
-      let k : f .kind ≡ 4 = omega (arith, v .kind) in
-      let z = zeros _ (decode-register f h) in
+      (λ k.
+      let z = zeros _ (decode-register f k) in
       let few : f .code < 1 = rw k at (v .code) in
-      rw (decode-register f h) (same-fields k (omega arith) refl (z 2) (z 3) refl (z 0) (z 1)))
+      rw (decode-register f k) (same-fields k (omega arith) refl (z 2) (z 3) refl (z 0) (z 1)))
+      (λ h.
+      let k : f .kind ≡ 5 = omega (arith, v .kind) in
+      let z = zeros _ (decode-enabled f h) in
+      let few : f .code < 1 = rw k at (v .code) in
+      rw (decode-enabled f h) (same-fields k (omega arith) refl refl (z 2) refl (z 0) (z 1)))
 
   valid-read : readRecord f n ≡ read-record.Read (decode f)
   valid-read =

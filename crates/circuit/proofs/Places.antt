@@ -150,7 +150,7 @@ tests-refusals false false false false false false r i end h = tt
 record-refusals : (f : Fields) (n i end : ℕ) → i ≤ end → Refusals (OfTable end) (atRecord (readRecord f n) i)
 unfolding readRecord
 record-refusals f n =
-    tests-refusals (ltb 4 (f .kind)) (eqb (f .width) 0 || ltb 32 (f .width)) (leb (codes (f .kind)) (f .code))
+    tests-refusals (ltb 5 (f .kind)) (eqb (f .width) 0 || ltb 32 (f .width)) (leb (codes (f .kind)) (f .code))
     (not (every (λ x. eqb x 0) (f .byte3 ∷ f .bytes10 ∷ unused (decode f) f)))
     (not (every (λ v. ltb v n) (uses (decode f)))) (leb (2 ^ f .width) (f .value)) (decode f)
 

@@ -12,7 +12,7 @@ use Rattle.net.specs.Tests.{every}
 use Rattle.circuit.specs.declared.record.Fields.{Fields}
 use Rattle.circuit.specs.declared.record.InputKind.the-variants.{Fixed, Free, Secret}
 use Rattle.circuit.specs.declared.record.Record.{Record}
-use Rattle.circuit.specs.declared.record.Record.the-variants.{Input, Constant, Operator, Multiplexer, Register}
+use Rattle.circuit.specs.declared.record.Record.the-variants.{Input, Constant, Operator, Multiplexer, Register, Enabled}
 use Rattle.circuit.specs.declared.record.ReadRecord.{ReadRecord}
 use Rattle.circuit.specs.declared.record.ReadRecord.the-variants.{Read, Refused}
 use Rattle.circuit.specs.declared.refusal.Ground.{Ground}
@@ -30,10 +30,11 @@ decode-encode (Constant w n) = refl
 decode-encode (Operator w op a b) = ap (λ o. Operator w o a b) (operator-code op)
 decode-encode (Multiplexer w a b c) = refl
 decode-encode (Register w a n) = refl
+decode-encode (Enabled w a b n) = refl
 
 -- none of grounds 5 to 10 holds of a record's fields, among n records
 pub record Valid (f : Fields) (n : ℕ) : Type 0 where
-  pub kind : f .kind ≤ 4
+  pub kind : f .kind ≤ 5
   pub width-least : 1 ≤ f .width
   pub width-most : f .width ≤ 32
   pub code : f .code < codes (f .kind)
@@ -60,7 +61,7 @@ same-record e = cc
 pub read-valid : (f : Fields) (n : ℕ) (r : Record) → readRecord f n ≡ Read r → Valid f n × (r ≡ decode f)
 unfolding readRecord
 read-valid f n r e =
-    let p5 = passed UnknownKind (ltb 4 (f .kind)) _ r e in
+    let p5 = passed UnknownKind (ltb 5 (f .kind)) _ r e in
     let p6 = passed BadWidth (eqb (f .width) 0 || ltb 32 (f .width)) _ r (p5 .1) in
     let p7 = passed UnknownCode (leb (codes (f .kind)) (f .code)) _ r (p6 .1) in
     let p8 =
@@ -69,7 +70,7 @@ read-valid f n r e =
     let p10 = passed ValueTooWide (leb (2 ^ f .width) (f .value)) _ r (p9 .1) in
     let w = both-false (eqb (f .width) 0) (ltb 32 (f .width)) (p6 .0) in (
       record {
-        kind = ltb-false 4 (f .kind) (p5 .0);
+        kind = ltb-false 5 (f .kind) (p5 .0);
         width-least = positive (f .width) (eqb-false (f .width) 0 (w .0));
         width-most = ltb-false 32 (f .width) (w .1);
         code = leb-false (codes (f .kind)) (f .code) (p7 .0);
@@ -95,37 +96,37 @@ unfolding every
 three-below a b c n h k = rw (h, k) (sym (and-true (ltb c n)))
 
 module _ (f : Fields) (n : ℕ) where
-  pub refused-kind : 5 ≤ f .kind → Refused UnknownKind ≡ readRecord f n
+  pub refused-kind : 6 ≤ f .kind → Refused UnknownKind ≡ readRecord f n
   unfolding readRecord
-  refused-kind h = rw (lt-ltb 4 (f .kind) h)
+  refused-kind h = rw (lt-ltb 5 (f .kind) h)
 
-  module _ (kind : f .kind ≤ 4) where
+  module _ (kind : f .kind ≤ 5) where
     pub refused-width : (eqb (f .width) 0 || ltb 32 (f .width)) ≡ true → Refused BadWidth ≡ readRecord f n
     unfolding readRecord
-    refused-width w = rw (le-ltb 4 (f .kind) kind, w)
+    refused-width w = rw (le-ltb 5 (f .kind) kind, w)
 
     module _ (w : (eqb (f .width) 0 || ltb 32 (f .width)) ≡ false) where
       pub refused-code : leb (codes (f .kind)) (f .code) ≡ true → Refused UnknownCode ≡ readRecord f n
       unfolding readRecord
-      refused-code k = rw (le-ltb 4 (f .kind) kind, w, k)
+      refused-code k = rw (le-ltb 5 (f .kind) kind, w, k)
 
       module _ (k : leb (codes (f .kind)) (f .code) ≡ false) where
         pub refused-zeros : every (λ x. eqb x 0) (f .byte3 ∷ f .bytes10 ∷ unused (decode f) f) ≡ false
             → Refused UnusedNotZero ≡ readRecord f n
         unfolding readRecord
-        refused-zeros z = rw (le-ltb 4 (f .kind) kind, w, k, z)
+        refused-zeros z = rw (le-ltb 5 (f .kind) kind, w, k, z)
 
         module _ (z : every (λ x. eqb x 0) (f .byte3 ∷ f .bytes10 ∷ unused (decode f) f) ≡ true) where
           pub refused-variables : every (λ v. ltb v n) (uses (decode f)) ≡ false
               → Refused NoSuchVariable ≡ readRecord f n
           unfolding readRecord
-          refused-variables u = rw (le-ltb 4 (f .kind) kind, w, k, z, u)
+          refused-variables u = rw (le-ltb 5 (f .kind) kind, w, k, z, u)
 
           module _ (u : every (λ v. ltb v n) (uses (decode f)) ≡ true) where
             pub refused-value : leb (2 ^ f .width) (f .value) ≡ true → Refused ValueTooWide ≡ readRecord f n
             unfolding readRecord
-            refused-value x = rw (le-ltb 4 (f .kind) kind, w, k, z, u, x)
+            refused-value x = rw (le-ltb 5 (f .kind) kind, w, k, z, u, x)
 
             pub accepted : leb (2 ^ f .width) (f .value) ≡ false → Read (decode f) ≡ readRecord f n
             unfolding readRecord
-            accepted x = rw (le-ltb 4 (f .kind) kind, w, k, z, u, x)
+            accepted x = rw (le-ltb 5 (f .kind) kind, w, k, z, u, x)

@@ -15,7 +15,7 @@ use Rattle.net.specs.declared.Stimulus.the-variants.{Poke, Tick}
 use Rattle.net.specs.Net.{listBelow}
 use Rattle.circuit.specs.declared.record.InputKind.{InputKind}
 use Rattle.circuit.specs.declared.record.Record.{Record}
-use Rattle.circuit.specs.declared.record.Record.the-variants.{Input, Constant, Operator, Multiplexer, Register}
+use Rattle.circuit.specs.declared.record.Record.the-variants.{Input, Constant, Operator, Multiplexer, Register, Enabled}
 use Rattle.circuit.specs.declared.refusal.Ground.the-variants.{StimuliNotWhole, TooManyStimuli}
 use Rattle.circuit.specs.declared.refusal.Ground.the-variants.{NotAnInput, PokeTooWide, FixedInput}
 use Rattle.circuit.specs.declared.refusal.Check.the-variants.{Passed}
@@ -72,6 +72,7 @@ input-record (Constant w n) e = absurd (let z : _≡_ {A = ℕ} 0 1 = cc in omeg
 input-record (Operator w op a b) e = absurd (let z : _≡_ {A = ℕ} 0 1 = cc in omega arith)
 input-record (Multiplexer w a b c) e = absurd (let z : _≡_ {A = ℕ} 0 1 = cc in omega arith)
 input-record (Register w a n) e = absurd (let z : _≡_ {A = ℕ} 0 1 = cc in omega arith)
+input-record (Enabled w a b n) e = absurd (let z : _≡_ {A = ℕ} 0 1 = cc in omega arith)
 
 -- ---- the list
 

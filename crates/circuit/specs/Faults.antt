@@ -29,7 +29,8 @@ found g =
     then checkStimuli (circuit (g .table) (length (g .table) / 16)) (g .stimuli)
 
 -- an input fixed to 9 and a free one, of width 4; a register of width 8 that takes the free one, at power-on 5; its sum
--- with the free one; one of the two, as the fixed one says; the constant 5
+-- with the free one; one of the two, as the fixed one says; the constant 5; a register that takes the sum where the
+-- free one is not 0, at power-on 6
 abbrev records : List (List ℕ)
 records =
     (0 ∷ 4 ∷ 0 ∷ 0 ∷ 0 ∷ 0 ∷ 0 ∷ 0 ∷ 0 ∷ 0 ∷ 0 ∷ 0 ∷ 9 ∷ 0 ∷ 0 ∷ 0 ∷ [])
@@ -38,6 +39,7 @@ records =
     ∷ (2 ∷ 8 ∷ 0 ∷ 0 ∷ 1 ∷ 0 ∷ 2 ∷ 0 ∷ 0 ∷ 0 ∷ 0 ∷ 0 ∷ 0 ∷ 0 ∷ 0 ∷ 0 ∷ [])
     ∷ (3 ∷ 8 ∷ 0 ∷ 0 ∷ 0 ∷ 0 ∷ 2 ∷ 0 ∷ 3 ∷ 0 ∷ 0 ∷ 0 ∷ 0 ∷ 0 ∷ 0 ∷ 0 ∷ [])
     ∷ (1 ∷ 8 ∷ 0 ∷ 0 ∷ 0 ∷ 0 ∷ 0 ∷ 0 ∷ 0 ∷ 0 ∷ 0 ∷ 0 ∷ 5 ∷ 0 ∷ 0 ∷ 0 ∷ [])
+    ∷ (5 ∷ 8 ∷ 0 ∷ 0 ∷ 3 ∷ 0 ∷ 1 ∷ 0 ∷ 0 ∷ 0 ∷ 0 ∷ 0 ∷ 6 ∷ 0 ∷ 0 ∷ 0 ∷ [])
     ∷ []
 
 abbrev pub constant : List ℕ
@@ -51,8 +53,8 @@ abbrev good : Given
 good =
     record {
       table = flatten records;
-      output = 6;
-      scratch = 24;
+      output = 7;
+      scratch = 28;
       stimuli =
           flatten
           ((0 ∷ 0 ∷ 0 ∷ 0 ∷ 9 ∷ 0 ∷ 0 ∷ 0 ∷ [])
@@ -101,7 +103,7 @@ tooLong =
       place = 0;
       made = λ g.
           record {
-            table = g .table ++ flatten (replicate 4091 constant);
+            table = g .table ++ flatten (replicate 4090 constant);
             output = 4097;
             scratch = 16388;
             stimuli = g .stimuli;
@@ -113,7 +115,7 @@ outputShort =
     record {
       ground = 3;
       place = 0;
-      made = λ g. record { table = g .table; output = 5; scratch = g .scratch; stimuli = g .stimuli };
+      made = λ g. record { table = g .table; output = 6; scratch = g .scratch; stimuli = g .stimuli };
     }
 
 abbrev scratchShort : Fault
@@ -121,7 +123,7 @@ scratchShort =
     record {
       ground = 4;
       place = 0;
-      made = λ g. record { table = g .table; output = g .output; scratch = 23; stimuli = g .stimuli };
+      made = λ g. record { table = g .table; output = g .output; scratch = 27; stimuli = g .stimuli };
     }
 
 -- the register's value does not fit
@@ -135,12 +137,12 @@ faults =
     ∷ inTable 2 0 (λ t. t ++ (0 ∷ []))
     ∷ outputShort
     ∷ scratchShort
-    -- the register: kind 5, width 33, byte 2, byte 3, A past the table
-    ∷ recordByte 5 2 0 5
+    -- the register: kind 6, width 33, byte 2, byte 3, A past the table
+    ∷ recordByte 5 2 0 6
     ∷ recordByte 6 2 1 33
     ∷ recordByte 7 2 2 1
     ∷ recordByte 8 2 3 1
-    ∷ recordByte 9 2 4 6
+    ∷ recordByte 9 2 4 7
     ∷ valueTooWide
     ∷ inStimuli 12 0 (λ s. s ++ (0 ∷ []))
     ∷ inStimuli 13 0 (λ s. s ++ flatten (replicate 4094 tick))
@@ -188,13 +190,14 @@ abbrev others : List Fault
 others =
     inTable 2 0 (λ t. t ++ replicate 8 0)
     -- 4,096 records are not too many
-    ∷ inTable 3 0 (λ t. t ++ flatten (replicate 4090 constant))
+    ∷ inTable 3 0 (λ t. t ++ flatten (replicate 4089 constant))
     ∷ recordByte 6 3 1 0
-    -- byte 2 of an input, an operator, a multiplexer, a constant
+    -- byte 2 of an input, an operator, a multiplexer, a constant, a register with an enable
     ∷ recordByte 7 1 2 3
     ∷ recordByte 7 3 2 9
     ∷ recordByte 7 4 2 1
     ∷ recordByte 7 5 2 1
+    ∷ recordByte 7 6 2 1
     -- bytes 10 and 11; what each kind does not use
     ∷ recordByte 8 2 10 1
     ∷ recordByte 8 2 11 1
@@ -206,15 +209,19 @@ others =
     ∷ recordByte 8 3 12 1
     ∷ recordByte 8 4 12 1
     ∷ recordByte 8 5 4 1
+    ∷ recordByte 8 6 8 1
     -- what each kind uses, and the high byte of A
     ∷ recordByte 9 2 5 1
-    ∷ recordByte 9 3 4 6
-    ∷ recordByte 9 3 6 6
-    ∷ recordByte 9 4 4 6
-    ∷ recordByte 9 4 6 6
-    ∷ recordByte 9 4 8 6
-    -- the value of a fixed input, of a constant, and its high bytes
+    ∷ recordByte 9 3 4 7
+    ∷ recordByte 9 3 6 7
+    ∷ recordByte 9 4 4 7
+    ∷ recordByte 9 4 6 7
+    ∷ recordByte 9 4 8 7
+    ∷ recordByte 9 6 4 7
+    ∷ recordByte 9 6 6 7
+    -- the value of a fixed input, of a register with an enable, of a constant, and its high bytes
     ∷ recordByte 10 0 12 16
+    ∷ recordByte 10 6 13 1
     ∷ recordByte 10 5 13 1
     ∷ recordByte 10 5 14 1
     ∷ recordByte 10 5 15 1
@@ -225,11 +232,12 @@ others =
     ∷ stimulusByte 14 2 3 1
     ∷ stimulusByte 14 2 4 1
     ∷ stimulusByte 14 2 7 1
-    -- the sum, the multiplexer, the constant, and no variable
+    -- the sum, the multiplexer, the constant, the register with an enable, and no variable
     ∷ stimulusByte 15 1 2 3
     ∷ stimulusByte 15 1 2 4
     ∷ stimulusByte 15 1 2 5
     ∷ stimulusByte 15 1 2 6
+    ∷ stimulusByte 15 1 2 7
     ∷ stimulusByte 15 1 3 1
     -- 16, and the value's high bytes
     ∷ stimulusByte 16 1 4 16
@@ -248,7 +256,7 @@ refusals =
     ∷ (map alone faults
     ++ (neighbours faults
     ++ (map alone others
-    ++ ((valueTooWide ∷ recordByte 5 3 0 5 ∷ [])
+    ++ ((valueTooWide ∷ recordByte 5 3 0 6 ∷ [])
     ∷ (stimulusByte 17 1 2 0 ∷ stimulusByte 14 2 1 1 ∷ [])
     ∷ (valueTooWide ∷ loop ∷ [])
     ∷ (stimulusByte 14 0 1 1 ∷ fullList ∷ [])
@@ -260,7 +268,7 @@ unfolding flatten checkRecords checkStimuli circuit
 refusals-hold = refl
 
 -- the fault that is left to ground 11 is a loop, and no other ground finds it
-pub loop-left : (found (with (loop ∷ [])) ≡ Passed) × Loop (graph (circuit (with (loop ∷ []) .table) 6)) (3 ∷ [])
+pub loop-left : (found (with (loop ∷ [])) ≡ Passed) × Loop (graph (circuit (with (loop ∷ []) .table) 7)) (3 ∷ [])
 unfolding flatten checkRecords checkStimuli circuit member
 loop-left = (
   refl,

@@ -9,7 +9,7 @@ use Rattle.net.specs.Net.{settle}
 use Rattle.net.specs.Machine.{run}
 use Rattle.circuit.specs.declared.record.InputKind.the-variants.{Fixed, Free, Secret}
 use Rattle.circuit.specs.declared.record.Record.{Record}
-use Rattle.circuit.specs.declared.record.Record.the-variants.{Input, Constant, Operator, Multiplexer, Register}
+use Rattle.circuit.specs.declared.record.Record.the-variants.{Input, Constant, Operator, Multiplexer, Register, Enabled}
 use Rattle.circuit.specs.Operator.{result}
 use Rattle.circuit.specs.Circuit.{Circuit, recordOf, graph}
 
@@ -17,7 +17,11 @@ use Rattle.circuit.specs.Circuit.{Circuit, recordOf, graph}
 abbrev pub multiplex : ℕ → ℕ → ℕ → ℕ → ℕ
 multiplex w a b c = cond (eqb a 0) c b % 2 ^ w
 
--- what a record gives from a state: a wire's value, and the value that a register takes at a tick; an input stays
+-- a register with an enable takes A, at width w, where B is not 0, else it holds what it has
+abbrev pub takeOrHold : ℕ → ℕ → ℕ → ℕ → ℕ
+takeOrHold w a b own = cond (eqb b 0) own (a % 2 ^ w)
+
+-- what a record gives from a state: a wire's value, and the value that a register has after a tick; an input stays
 unfoldable pub value : Record → (ℕ → ℕ) → ℕ → ℕ
 unfolding result
 value (Input w k) s own = own
@@ -25,6 +29,7 @@ value (Constant w n) s own = n
 value (Operator w op a b) s own = result op w (s a) (s b)
 value (Multiplexer w a b c) s own = multiplex w (s a) (s b) (s c)
 value (Register w a n) s own = s a % 2 ^ w
+value (Enabled w a b n) s own = takeOrHold w (s a) (s b) own
 
 -- what every variable gets from a state
 unfoldable pub values : Circuit → (ℕ → ℕ) → ℕ → ℕ
@@ -40,6 +45,7 @@ initial (Constant w n) = 0
 initial (Operator w op a b) = 0
 initial (Multiplexer w a b c) = 0
 initial (Register w a n) = n
+initial (Enabled w a b n) = n
 
 -- document 01's power-on; in a circuit without a loop the wires hold the one set of values that satisfies all their
 -- records

@@ -16,7 +16,7 @@ use Rattle.circuit.specs.declared.record.ReadInput.the-variants as read-
 use Rattle.circuit.specs.declared.record.InputKind.{InputKind}
 use Rattle.circuit.specs.declared.record.InputKind.the-variants.{Fixed, Free, Secret}
 use Rattle.circuit.specs.declared.record.Record.{Record}
-use Rattle.circuit.specs.declared.record.Record.the-variants.{Input, Constant, Operator, Multiplexer, Register}
+use Rattle.circuit.specs.declared.record.Record.the-variants.{Input, Constant, Operator, Multiplexer, Register, Enabled}
 use Rattle.circuit.specs.declared.record.ReadRecord.{ReadRecord}
 use Rattle.circuit.specs.declared.record.ReadRecord.the-variants.{Read, Refused}
 use Rattle.circuit.specs.declared.refusal.Ground.{Ground}
@@ -39,17 +39,18 @@ fieldsAt t at = record {
   value = u32At t (at + 12);
 }
 
--- document 01's number of each kind, byte 0
+-- the number of each kind, byte 0: document 01's, and request S-2's of a register with an enable
 abbrev pub kindNumber : Kind → ℕ
 kindNumber kind.Input = 0
 kindNumber kind.Constant = 1
 kindNumber kind.Operator = 2
 kindNumber kind.Multiplexer = 3
 kindNumber kind.Register = 4
+kindNumber kind.Enabled = 5
 
 -- the kinds in the order of their numbers
 abbrev pub kinds : List Kind
-kinds = kind.Input ∷ kind.Constant ∷ kind.Operator ∷ kind.Multiplexer ∷ kind.Register ∷ []
+kinds = kind.Input ∷ kind.Constant ∷ kind.Operator ∷ kind.Multiplexer ∷ kind.Register ∷ kind.Enabled ∷ []
 
 -- the kind of a byte, if it has one
 abbrev pub readKind : ℕ → ReadKind
@@ -79,31 +80,34 @@ readInput code n = getD (map read-input.Is (inputKinds n)) code read-input.None
 abbrev pub inputKindOf : ℕ → ℕ → InputKind
 inputKindOf code n = getD (inputKinds n) code Secret
 
--- what fields read as for kinds 0 to 3: an input, a constant, an operator, a multiplexer
+-- what fields read as for kinds 0 to 4: an input, a constant, an operator, a multiplexer, a register
 abbrev pub firstKinds : Fields → List Record
 firstKinds f =
     Input (f .width) (inputKindOf (f .code) (f .value))
     ∷ Constant (f .width) (f .value)
     ∷ Operator (f .width) (operatorOf (f .code)) (f .a) (f .b)
     ∷ Multiplexer (f .width) (f .a) (f .b) (f .c)
+    ∷ Register (f .width) (f .a) (f .value)
     ∷ []
 
--- what fields read as; kind 4 is a register, and ground 5 turns away every other, which reads as a register here
+-- what fields read as; kind 5 is a register with data A and enable B, and ground 5 turns away every kind above it, which
+-- reads as one here
 unfoldable pub decode : Fields → Record
-decode f = getD (firstKinds f) (f .kind) (Register (f .width) (f .a) (f .value))
+decode f = getD (firstKinds f) (f .kind) (Enabled (f .width) (f .a) (f .b) (f .value))
 
 -- the fields with the bytes that must be 0
 abbrev fields : ℕ → ℕ → ℕ → ℕ → ℕ → ℕ → ℕ → Fields
 fields byte0 width code a b c value =
     record { kind = byte0; width = width; code = code; byte3 = 0; a = a; b = b; c = c; bytes10 = 0; value = value }
 
--- document 01's numbers of each kind of record: kind, width, byte 2, A, B, C and value
+-- the numbers of each kind of record: kind, width, byte 2, A, B, C and value
 abbrev pub encode : Record → Fields
 encode (Input w k) = fields 0 w (inputCode k) 0 0 0 (inputValue k)
 encode (Constant w n) = fields 1 w 0 0 0 0 n
 encode (Operator w op a b) = fields 2 w (operatorCode op) a b 0 0
 encode (Multiplexer w a b c) = fields 3 w 0 a b c 0
 encode (Register w a n) = fields 4 w 0 a 0 0 n
+encode (Enabled w a b n) = fields 5 w 0 a b 0 n
 
 -- how many values byte 2 has for a kind: three for an input, nine for an operator, otherwise 0 alone
 abbrev pub codes : ℕ → ℕ
@@ -118,6 +122,7 @@ unused (Constant w n) f = f .a ∷ f .b ∷ f .c ∷ []
 unused (Operator w op a b) f = f .c ∷ f .value ∷ []
 unused (Multiplexer w a b c) f = f .value ∷ []
 unused (Register w a n) f = f .b ∷ f .c ∷ []
+unused (Enabled w a b n) f = f .c ∷ []
 
 -- refused on a ground where the test holds; else what is tried next
 abbrev pub refuseRecord : Ground → Bool → ReadRecord → ReadRecord
@@ -128,7 +133,7 @@ refuseRecord ground false next = next
 unfoldable pub readRecord : Fields → ℕ → ReadRecord
 unfolding decode every
 readRecord f n =
-    refuseRecord UnknownKind (ltb 4 (f .kind))
+    refuseRecord UnknownKind (ltb 5 (f .kind))
     (refuseRecord BadWidth (eqb (f .width) 0 || ltb 32 (f .width))
     (refuseRecord UnknownCode (leb (codes (f .kind)) (f .code))
     (refuseRecord UnusedNotZero (not (every (λ x. eqb x 0) (f .byte3 ∷ f .bytes10 ∷ unused (decode f) f)))

@@ -1,5 +1,5 @@
--- The five kinds of record: width, uses, which are inputs, wires and registers, and which inputs are fixed, free or
--- secret.
+-- The six kinds of record, document 01's five and request S-2's register with an enable: width, uses, which are inputs,
+-- wires and registers, and which inputs are fixed, free or secret.
 -- Assumes nothing.
 use mathlib.Core.Bool.{Bool, true, false}
 use mathlib.Core.List.{List, [], _∷_}
@@ -9,7 +9,7 @@ use lib.ListN.{length}
 use Rattle.net.specs.Net.{Role, input, wire, register}
 use Rattle.circuit.specs.declared.record.InputKind.{InputKind}
 use Rattle.circuit.specs.declared.record.Record.{Record}
-use Rattle.circuit.specs.declared.record.Record.the-variants.{Input, Constant, Operator, Multiplexer, Register}
+use Rattle.circuit.specs.declared.record.Record.the-variants.{Input, Constant, Operator, Multiplexer, Register, Enabled}
 
 abbrev pub width : Record → ℕ
 width (Input w k) = w
@@ -17,6 +17,7 @@ width (Constant w n) = w
 width (Operator w op a b) = w
 width (Multiplexer w a b c) = w
 width (Register w a n) = w
+width (Enabled w a b n) = w
 
 -- the variables that a record uses
 abbrev pub uses : Record → List ℕ
@@ -25,6 +26,7 @@ uses (Constant w n) = []
 uses (Operator w op a b) = a ∷ b ∷ []
 uses (Multiplexer w a b c) = a ∷ b ∷ c ∷ []
 uses (Register w a n) = a ∷ []
+uses (Enabled w a b n) = a ∷ b ∷ []
 
 -- document 01's wires are constants, operators and multiplexers
 abbrev pub role : Record → Role
@@ -33,6 +35,7 @@ role (Constant w n) = wire
 role (Operator w op a b) = wire
 role (Multiplexer w a b c) = wire
 role (Register w a n) = register
+role (Enabled w a b n) = register
 
 -- what kind of input a record is, if it is one
 abbrev pub inputOf : Record → Option InputKind
@@ -41,6 +44,7 @@ inputOf (Constant w n) = none
 inputOf (Operator w op a b) = none
 inputOf (Multiplexer w a b c) = none
 inputOf (Register w a n) = none
+inputOf (Enabled w a b n) = none
 
 -- 0 for a record that is no wire, else one more than the number of variables that it uses
 abbrev pub wireUses : Record → ℕ

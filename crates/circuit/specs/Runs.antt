@@ -67,6 +67,56 @@ exchange =
     ∷ (2 ∷ 4 ∷ 1 ∷ 0 ∷ 1 ∷ 0 ∷ 0 ∷ 0 ∷ 0 ∷ 0 ∷ 0 ∷ 0 ∷ 0 ∷ 0 ∷ 0 ∷ 0 ∷ [])
     ∷ []
 
+-- Two free inputs, data of width 16 and an enable of width 32. A register of width 8 with both, at power-on 7. A plain
+-- register that takes the enable, and one at power-on 9 whose data and enable both are that register. A register that
+-- takes the data and is its own enable, at power-on 4.
+abbrev enables : List (List ℕ)
+enables =
+    (0 ∷ 16 ∷ 1 ∷ 0 ∷ 0 ∷ 0 ∷ 0 ∷ 0 ∷ 0 ∷ 0 ∷ 0 ∷ 0 ∷ 0 ∷ 0 ∷ 0 ∷ 0 ∷ [])
+    ∷ (0 ∷ 32 ∷ 1 ∷ 0 ∷ 0 ∷ 0 ∷ 0 ∷ 0 ∷ 0 ∷ 0 ∷ 0 ∷ 0 ∷ 0 ∷ 0 ∷ 0 ∷ 0 ∷ [])
+    ∷ (5 ∷ 8 ∷ 0 ∷ 0 ∷ 0 ∷ 0 ∷ 1 ∷ 0 ∷ 0 ∷ 0 ∷ 0 ∷ 0 ∷ 7 ∷ 0 ∷ 0 ∷ 0 ∷ [])
+    ∷ (4 ∷ 32 ∷ 0 ∷ 0 ∷ 1 ∷ 0 ∷ 0 ∷ 0 ∷ 0 ∷ 0 ∷ 0 ∷ 0 ∷ 0 ∷ 0 ∷ 0 ∷ 0 ∷ [])
+    ∷ (5 ∷ 32 ∷ 0 ∷ 0 ∷ 3 ∷ 0 ∷ 3 ∷ 0 ∷ 0 ∷ 0 ∷ 0 ∷ 0 ∷ 9 ∷ 0 ∷ 0 ∷ 0 ∷ [])
+    ∷ (5 ∷ 8 ∷ 0 ∷ 0 ∷ 0 ∷ 0 ∷ 5 ∷ 0 ∷ 0 ∷ 0 ∷ 0 ∷ 0 ∷ 4 ∷ 0 ∷ 0 ∷ 0 ∷ [])
+    ∷ []
+
+-- tick; poke data 515; tick; tick; poke enable 2^31; tick; tick; poke enable 0; poke data 600; tick; tick; poke enable
+-- 1; tick
+abbrev enabling : List (List ℕ)
+enabling =
+    (1 ∷ 0 ∷ 0 ∷ 0 ∷ 0 ∷ 0 ∷ 0 ∷ 0 ∷ [])
+    ∷ (0 ∷ 0 ∷ 0 ∷ 0 ∷ 3 ∷ 2 ∷ 0 ∷ 0 ∷ [])
+    ∷ (1 ∷ 0 ∷ 0 ∷ 0 ∷ 0 ∷ 0 ∷ 0 ∷ 0 ∷ [])
+    ∷ (1 ∷ 0 ∷ 0 ∷ 0 ∷ 0 ∷ 0 ∷ 0 ∷ 0 ∷ [])
+    ∷ (0 ∷ 0 ∷ 1 ∷ 0 ∷ 0 ∷ 0 ∷ 0 ∷ 128 ∷ [])
+    ∷ (1 ∷ 0 ∷ 0 ∷ 0 ∷ 0 ∷ 0 ∷ 0 ∷ 0 ∷ [])
+    ∷ (1 ∷ 0 ∷ 0 ∷ 0 ∷ 0 ∷ 0 ∷ 0 ∷ 0 ∷ [])
+    ∷ (0 ∷ 0 ∷ 1 ∷ 0 ∷ 0 ∷ 0 ∷ 0 ∷ 0 ∷ [])
+    ∷ (0 ∷ 0 ∷ 0 ∷ 0 ∷ 88 ∷ 2 ∷ 0 ∷ 0 ∷ [])
+    ∷ (1 ∷ 0 ∷ 0 ∷ 0 ∷ 0 ∷ 0 ∷ 0 ∷ 0 ∷ [])
+    ∷ (1 ∷ 0 ∷ 0 ∷ 0 ∷ 0 ∷ 0 ∷ 0 ∷ 0 ∷ [])
+    ∷ (0 ∷ 0 ∷ 1 ∷ 0 ∷ 1 ∷ 0 ∷ 0 ∷ 0 ∷ [])
+    ∷ (1 ∷ 0 ∷ 0 ∷ 0 ∷ 0 ∷ 0 ∷ 0 ∷ 0 ∷ [])
+    ∷ []
+
+-- the registers with an enable after the first k stimuli
+abbrev enabledFor : ℕ → List ℕ → Run
+enabledFor k values = record { records = enables; stimuli = take k enabling; values = values }
+
+-- An enable of 0 holds over ticks; one of 2^31 loads a register of width 8, and so does one of 1; data and an enable
+-- that move at the tick are read as they were before; a register that is its own enable takes 0, and holds it for good.
+abbrev pub enabledRuns : List Run
+enabledRuns =
+    enabledFor 0 (0 ∷ 0 ∷ 7 ∷ 0 ∷ 9 ∷ 4 ∷ [])
+    ∷ enabledFor 1 (0 ∷ 0 ∷ 7 ∷ 0 ∷ 9 ∷ 0 ∷ [])
+    ∷ enabledFor 4 (515 ∷ 0 ∷ 7 ∷ 0 ∷ 9 ∷ 0 ∷ [])
+    ∷ enabledFor 6 (515 ∷ 2147483648 ∷ 3 ∷ 2147483648 ∷ 9 ∷ 0 ∷ [])
+    ∷ enabledFor 7 (515 ∷ 2147483648 ∷ 3 ∷ 2147483648 ∷ 2147483648 ∷ 0 ∷ [])
+    ∷ enabledFor 10 (600 ∷ 0 ∷ 3 ∷ 0 ∷ 2147483648 ∷ 0 ∷ [])
+    ∷ enabledFor 11 (600 ∷ 0 ∷ 3 ∷ 0 ∷ 2147483648 ∷ 0 ∷ [])
+    ∷ enabledFor 13 (600 ∷ 1 ∷ 88 ∷ 1 ∷ 2147483648 ∷ 0 ∷ [])
+    ∷ []
+
 abbrev pub runs : List Run
 runs =
     accumulated 0 (0 ∷ 0 ∷ 0 ∷ 0 ∷ 0 ∷ 0 ∷ 0 ∷ 0 ∷ 0 ∷ [])
@@ -90,5 +140,18 @@ runs-hold = (
   (
     (refl, refl, refl),
     ((refl, refl, refl), ((refl, refl, refl), ((refl, refl, refl), ((refl, refl, refl), ((refl, refl, refl), tt))))),
+  ),
+)
+
+pub enabled-runs-hold : RunsHold enabledRuns
+unfolding flatten circuit checkRecords checkStimuli stimuli machine listBelow
+enabled-runs-hold = (
+  (refl, refl, refl),
+  (
+    (refl, refl, refl),
+    (
+      (refl, refl, refl),
+      ((refl, refl, refl), ((refl, refl, refl), ((refl, refl, refl), ((refl, refl, refl), ((refl, refl, refl), tt))))),
+    ),
   ),
 )

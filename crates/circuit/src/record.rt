@@ -31,13 +31,14 @@ pub struct Fields {
     pub value: u32,
 }
 
-// The five kinds, in the order of byte 0.
+// The six kinds, in the order of byte 0.
 pub enum Kind {
     Input,
     Constant,
     Operator,
     Multiplexer,
     Register,
+    Enabled,
 }
 
 pub enum ReadKind {
@@ -57,13 +58,15 @@ pub enum ReadInput {
     None,
 }
 
-// One of five kinds, each with its width first. A register's last number is its power-on value.
+// One of six kinds, each with its width first. A register's last number is its power-on value; one with an enable has
+// its data and its enable before it.
 pub enum Record {
     Input(u8, InputKind),
     Constant(u8, u32),
     Operator(u8, Operator, u16, u16),
     Multiplexer(u8, u16, u16, u16),
     Register(u8, u16, u32),
+    Enabled(u8, u16, u16, u32),
 }
 
 // What a record's fields read as.
@@ -99,7 +102,8 @@ pub fn read_kind(kind: u8) -> ReadKind
         2 => ReadKind::Is(Kind::Operator),
         3 => ReadKind::Is(Kind::Multiplexer),
         4 => ReadKind::Is(Kind::Register),
-        5..=255 => ReadKind::None,
+        5 => ReadKind::Is(Kind::Enabled),
+        6..=255 => ReadKind::None,
     }
 }
 
@@ -143,7 +147,8 @@ pub fn decode(f: Fields) -> Record
         1 => Record::Constant(f.width, f.value),
         2 => Record::Operator(f.width, operator_of(f.code), f.a, f.b),
         3 => Record::Multiplexer(f.width, f.a, f.b, f.c),
-        4..=255 => Record::Register(f.width, f.a, f.value),
+        4 => Record::Register(f.width, f.a, f.value),
+        5..=255 => Record::Enabled(f.width, f.a, f.b, f.value),
     }
 }
 
@@ -177,6 +182,7 @@ fn unknown_code(kind: Kind, code: u8) -> bool
         Kind::Constant => 1 <= code,
         Kind::Multiplexer => 1 <= code,
         Kind::Register => 1 <= code,
+        Kind::Enabled => 1 <= code,
     }
 }
 
@@ -215,6 +221,7 @@ fn unused_zero(r: Record, f: Fields) -> bool
         Record::Operator(_, _, _, _) => all_zero(f.byte3, f.bytes10, 0, 0, f.c, f.value),
         Record::Multiplexer(_, _, _, _) => all_zero(f.byte3, f.bytes10, 0, 0, 0, f.value),
         Record::Register(_, _, _) => all_zero(f.byte3, f.bytes10, 0, f.b, f.c, 0),
+        Record::Enabled(_, _, _, _) => all_zero(f.byte3, f.bytes10, 0, 0, f.c, 0),
     }
 }
 
@@ -240,6 +247,7 @@ fn uses_below(r: Record, n: usize) -> bool
         Record::Operator(_, _, a, b) => all_below(a, b, b, n),
         Record::Multiplexer(_, a, b, c) => all_below(a, b, c, n),
         Record::Register(_, a, _) => all_below(a, a, a, n),
+        Record::Enabled(_, a, b, _) => all_below(a, b, b, n),
     }
 }
 
@@ -292,5 +300,6 @@ pub fn initial_value(r: Record) -> u32
         Record::Operator(_, _, _, _) => 0,
         Record::Multiplexer(_, _, _, _) => 0,
         Record::Register(_, _, n) => n,
+        Record::Enabled(_, _, _, n) => n,
     }
 }

@@ -11,11 +11,11 @@ use crate::record;
 use crate::record::Record;
 use crate::record::fields_at;
 
-// 0 where record v is no wire, else one more than the number of variables that it uses. The numbers of kinds 0 to 4,
-// which are 0, 1, 3, 4 and 0, stand in one number of base 16: no branch depends on which kind it is.
+// 0 where record v is no wire, else one more than the number of variables that it uses. The numbers of kinds 0 to 5,
+// which are 0, 1, 3, 4, 0 and 0, stand in one number of base 16: no branch depends on which kind it is.
 pub fn wire_uses(t: &[u8], v: usize) -> u16
     requires { ⌜ v * 16 + 16 ≤ length (now t) ⌝ }
-    requires { ⌜ fieldsAt (now t) (v * 16) .kind ≤ 4 ⌝ }
+    requires { ⌜ fieldsAt (now t) (v * 16) .kind ≤ 5 ⌝ }
     ensures { λ r. ⌜ r ≡ wireUses (decode (fieldsAt (now (t .entry)) (v * 16))) ⌝ }
 {
     let kind = t[v * 16];
@@ -31,7 +31,7 @@ pub fn use_at(t: &[u8], v: usize, k: usize) -> u16
     u16_at(t, v * 16 + 4 + k * 2)
 }
 
-// Whether record v is a register.
+// Whether record v is a register, with an enable or without.
 pub fn is_register(t: &[u8], v: usize) -> bool
     requires { ⌜ v * 16 + 16 ≤ length (now t) ⌝ }
     ensures { λ r. ⌜ r ≡ isRegister (decode (fieldsAt (now (t .entry)) (v * 16))) ⌝ }

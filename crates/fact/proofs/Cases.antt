@@ -1,4 +1,5 @@
--- Cases A to J hold: their tables have no loop, by numbers that fall along every wire's uses, and the rest is computed.
+-- Cases A to J hold, and those of the requests: their tables have no loop, by numbers that fall along every wire's
+-- uses, and the rest is computed.
 -- Assumes nothing.
 use mathlib.Core.Path.{_≡_, refl}
 use mathlib.Core.List.{List, [], _∷_, flatten}
@@ -11,6 +12,9 @@ use Rattle.circuit.specs.Checks.{checkRecords}
 use Rattle.circuit.proofs.Tables.{Falls, falling-no-loop}
 use Rattle.fact.specs.Certificate.{registers, rounds, certificate}
 use Rattle.fact.specs.Cases.{Case, CasesHold, caseA, caseB, caseC, caseD, caseE, caseF, caseG, caseH, caseI, caseJ, cases}
+use Rattle.fact.specs.RequestCases.{caseEnableZero, caseEnableThree, caseEnableWide, caseEnableFree}
+use Rattle.fact.specs.RequestCases.{caseEnableSecret, caseEnableItself, caseEnableOpens, caseEnableRow}
+use Rattle.fact.specs.RequestCases.{caseCounter, caseEnableBound, requestCases}
 
 -- numbers of A's variables that fall along every wire's uses
 abbrev ranksA : List ℕ
@@ -40,4 +44,19 @@ cases-hold =
     also (refl, refl, no-loop caseH (0 ∷ 0 ∷ 1 ∷ []) refl tt, refl, refl, refl)
     also (refl, refl, no-loop caseI (0 ∷ 0 ∷ 0 ∷ 1 ∷ 1 ∷ []) refl tt, refl, refl, refl)
     also (refl, refl, no-loop caseJ (0 ∷ 1 ∷ []) refl tt, refl, refl, refl)
+    also tt
+
+pub request-cases-hold : CasesHold requestCases
+unfolding flatten circuit checkRecords rounds registers certificate allBelow every
+request-cases-hold =
+    (refl, refl, no-loop caseEnableZero [] refl tt, refl, refl, refl)
+    also (refl, refl, no-loop caseEnableThree [] refl tt, refl, refl, refl)
+    also (refl, refl, no-loop caseEnableWide [] refl tt, refl, refl, refl)
+    also (refl, refl, no-loop caseEnableFree [] refl tt, refl, refl, refl)
+    also (refl, refl, no-loop caseEnableSecret [] refl tt, refl, refl, refl)
+    also (refl, refl, no-loop caseEnableItself [] refl tt, refl, refl, refl)
+    also (refl, refl, no-loop caseEnableOpens [] refl tt, refl, refl, refl)
+    also (refl, refl, no-loop caseEnableRow [] refl tt, refl, refl, refl)
+    also (refl, refl, no-loop caseCounter (0 ∷ 0 ∷ 0 ∷ 1 ∷ []) refl tt, refl, refl, refl)
+    also (refl, refl, no-loop caseEnableBound (0 ∷ 1 ∷ []) refl tt, refl, refl, refl)
     also tt

@@ -24,7 +24,7 @@ use Rattle.net.proofs.TwoRuns.{Sound, two-runs}
 use Rattle.circuit.specs.declared.record.InputKind.{InputKind}
 use Rattle.circuit.specs.declared.record.InputKind.the-variants.{Fixed, Free, Secret}
 use Rattle.circuit.specs.declared.record.Record.{Record}
-use Rattle.circuit.specs.declared.record.Record.the-variants.{Input, Constant, Operator, Multiplexer, Register}
+use Rattle.circuit.specs.declared.record.Record.the-variants.{Input, Constant, Operator, Multiplexer, Register, Enabled}
 use Rattle.circuit.specs.Record.{role, uses, inputOf}
 use Rattle.circuit.specs.Circuit.{Circuit, recordOf, graph, NoLoop}
 use Rattle.circuit.specs.Machine.{value, values, initial, powerOn, machine}
@@ -34,12 +34,12 @@ use Rattle.circuit.proofs.Values.{values-local}
 use Rattle.circuit.proofs.Stimuli.{Poked, poke-passed, input-record}
 use Rattle.fact.specs.declared.Fact.{Fact}
 use Rattle.fact.specs.declared.Fact.the-variants.{Always, Open}
-use Rattle.fact.specs.Fact.{_⊑_, itself, same, narrow}
+use Rattle.fact.specs.Fact.{_⊑_, itself, same}
 use Rattle.fact.specs.Rule.{inputRule, ruleOf, rule}
 use Rattle.fact.specs.Certificate.{LeastStore, initialFact, initialStore, registers, rounds, certificate}
 use Rattle.fact.specs.TwoRuns.{isSecret, AlikeLists, Claims, number, alike, nothing}
-use Rattle.fact.proofs.Order.{⊑-of-eq, ⊑-trans, ⊑-antisym, same-eq, same-refl, height, height-rises, height-most, join-right, operator-mono, multiplexer-mono, register-mono}
-use Rattle.fact.proofs.Claims.{claims-up, claims-operator, claims-multiplexer, claims-register}
+use Rattle.fact.proofs.Order.{⊑-of-eq, ⊑-trans, ⊑-antisym, same-eq, same-refl, height, height-rises, height-most, operator-mono, multiplexer-mono, register-mono, register-above, enabled-above, enabled-mono}
+use Rattle.fact.proofs.Claims.{claims-up, claims-operator, claims-multiplexer, claims-register, claims-enabled}
 
 -- ---- one record's rule
 
@@ -50,6 +50,7 @@ rule-local (Constant w n) s t h = refl
 rule-local (Operator w op a b) s t h = rw (h a (member-1 _ _), h b (member-2 _ _ _))
 rule-local (Multiplexer w a b c) s t h = rw (h a (member-1 _ _), h b (member-2 _ _ _), h c (member-3 _ _ _ _))
 rule-local (Register w a n) s t h = rw (h a (member-1 _ _))
+rule-local (Enabled w a b n) s t h = rw (h a (member-1 _ _), h b (member-2 _ _ _))
 
 rule-mono : (r : Record) (s t : ℕ → Fact) → ((u : ℕ) → T (member u (uses r)) → s u ⊑ t u) → ruleOf r s ⊑ ruleOf r t
 unfolding ruleOf
@@ -59,6 +60,7 @@ rule-mono (Operator w op a b) s t h = operator-mono op w (h a (member-1 _ _)) (h
 rule-mono (Multiplexer w a b c) s t h =
     multiplexer-mono w (h a (member-1 _ _)) (h b (member-2 _ _ _)) (h c (member-3 _ _ _ _))
 rule-mono (Register w a n) s t h = register-mono w n (h a (member-1 _ _))
+rule-mono (Enabled w a b n) s t h = enabled-mono w n (h a (member-1 _ _)) (h b (member-2 _ _ _))
 
 rule-input : (r : Record) (s : ℕ → Fact) → role r ≡ input → ruleOf r s ≡ initialFact r
 unfolding ruleOf
@@ -67,6 +69,7 @@ rule-input (Constant w n) s e = cc
 rule-input (Operator w op a b) s e = cc
 rule-input (Multiplexer w a b c) s e = cc
 rule-input (Register w a n) s e = cc
+rule-input (Enabled w a b n) s e = cc
 
 rule-power-on : (r : Record) (s : ℕ → Fact) → role r ≡ register → initialFact r ⊑ ruleOf r s
 unfolding ruleOf
@@ -74,19 +77,25 @@ rule-power-on (Input w k) s e = ⊑-of-eq (cc)
 rule-power-on (Constant w n) s e = ⊑-of-eq (cc)
 rule-power-on (Operator w op a b) s e = ⊑-of-eq (cc)
 rule-power-on (Multiplexer w a b c) s e = ⊑-of-eq (cc)
-rule-power-on (Register w a n) s e = join-right (narrow w (s a)) (Always n)
+rule-power-on (Register w a n) s e = register-above w n (s a)
+rule-power-on (Enabled w a b n) s e = enabled-above w n (s a) (s b)
 
--- a wire's or a register's rule claims what its record makes of values of which its operands' facts are claimed
+-- a wire's or a register's rule claims what its record makes of values of which its operands' facts are claimed, and
+-- for a register its own fact, as it may hold
 rule-claims : (r : Record) (s : ℕ → Fact) (m m′ : ℕ → ℕ) (own own′ : ℕ) → (role r ≡ input → ⊥)
     → ((u : ℕ) → T (member u (uses r)) → Claims (s u) (m u) (m′ u))
+    → (role r ≡ register → Claims (ruleOf r s) own own′)
     → Claims (ruleOf r s) (value r m own) (value r m′ own′)
 unfolding ruleOf value
-rule-claims (Input w k) s m m′ own own′ q h = absurd (q refl)
-rule-claims (Constant w n) s m m′ own own′ q h = number
-rule-claims (Operator w op a b) s m m′ own own′ q h = claims-operator op w (h a (member-1 _ _)) (h b (member-2 _ _ _))
-rule-claims (Multiplexer w a b c) s m m′ own own′ q h =
+rule-claims (Input w k) s m m′ own own′ q h held = absurd (q refl)
+rule-claims (Constant w n) s m m′ own own′ q h held = number
+rule-claims (Operator w op a b) s m m′ own own′ q h held =
+    claims-operator op w (h a (member-1 _ _)) (h b (member-2 _ _ _))
+rule-claims (Multiplexer w a b c) s m m′ own own′ q h held =
     claims-multiplexer w (h a (member-1 _ _)) (h b (member-2 _ _ _)) (h c (member-3 _ _ _ _))
-rule-claims (Register w a n) s m m′ own own′ q h = claims-register w n (h a (member-1 _ _))
+rule-claims (Register w a n) s m m′ own own′ q h held = claims-register w n (h a (member-1 _ _))
+rule-claims (Enabled w a b n) s m m′ own own′ q h held =
+    claims-enabled w n (h a (member-1 _ _)) (h b (member-2 _ _ _)) (held refl)
 
 -- at power-on
 initial-claims : (r : Record) → (role r ≡ wire → ⊥) → Claims (initialFact r) (initial r) (initial r)
@@ -97,6 +106,7 @@ initial-claims (Constant w n) q = absurd (q refl)
 initial-claims (Operator w op a b) q = absurd (q refl)
 initial-claims (Multiplexer w a b c) q = absurd (q refl)
 initial-claims (Register w a n) q = number
+initial-claims (Enabled w a b n) q = number
 
 -- two values that may be poked into an input at the same place of two lists
 poke-claims : (k : InputKind) (x y : ℕ) → fixedToOther (some k) x ≡ false → (x ≡ y) ⊎ T (isSecret (some k))
@@ -164,9 +174,12 @@ module _ (c : Circuit) where
   sound =
       record {
         local = values-local c;
-        wires = λ s m m′ v below e h. rule-claims (recordOf c v) s m m′ (m v) (m′ v) (λ d. input-wire (sym d ∙ e)) h;
+        wires = λ s m m′ v below e h.
+            rule-claims (recordOf c v) s m m′ (m v) (m′ v) (λ d. input-wire (sym d ∙ e)) h
+            (λ d. wire-register (sym e ∙ d));
         registers = λ s m m′ v below e h fixed own.
-            rw fixed (rule-claims (recordOf c v) s m m′ (m v) (m′ v) (λ d. input-register (sym d ∙ e)) h);
+            rw fixed (rule-claims (recordOf c v) s m m′ (m v) (m′ v) (λ d. input-register (sym d ∙ e)) h
+            (λ _. subst (λ f. Claims f (m v) (m′ v)) fixed own));
       }
 
   -- twice the registers, as the sum of their heights

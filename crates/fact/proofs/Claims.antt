@@ -7,11 +7,11 @@ use Prim.Native.Nat.{ℕ, _%_, _^_}
 use lib.Dec.{eqb}
 use Rattle.circuit.specs.declared.operator.Operator as operator
 use Rattle.circuit.specs.Operator.{result}
-use Rattle.circuit.specs.Machine.{multiplex}
+use Rattle.circuit.specs.Machine.{multiplex, takeOrHold}
 use Rattle.fact.specs.declared.Fact.{Fact}
 use Rattle.fact.specs.declared.Fact.the-variants.{Always, Open, Marked}
 use Rattle.fact.specs.Fact.{_⊑_, itself, always-open, always-marked, open-marked, join, narrow}
-use Rattle.fact.specs.Rule.{operatorRule, alwaysOrMarked, choose, multiplexerRule, registerRule}
+use Rattle.fact.specs.Rule.{operatorRule, alwaysOrMarked, choose, multiplexerRule, registerRule, enabledRule}
 use Rattle.fact.specs.TwoRuns.{Claims, number, alike, nothing}
 use Rattle.fact.proofs.Order.{join-left, join-right}
 
@@ -88,3 +88,27 @@ claims-multiplexer w {a} {a′} {b} {b′} {c} {c′} h k l =
 pub claims-register : (w n : ℕ) {x : Fact} {a a′ : ℕ} → Claims x a a′
     → Claims (registerRule w n x) (a % 2 ^ w) (a′ % 2 ^ w)
 claims-register w n {x} h = claims-up (join-left (narrow w x) (Always n)) (claims-narrow w h)
+
+-- ---- a register with an enable
+
+-- the enable is the same number in both runs
+claims-same-enable : (t : Bool) (n : ℕ) {f : Fact} {x x′ own own′ : ℕ} → Claims f x x′
+    → Claims (cond t (Always n) f) own own′ → Claims (cond t (Always n) f) (cond t own x) (cond t own′ x′)
+claims-same-enable true n h k = k
+claims-same-enable false n h k = h
+
+-- the enable may differ in the two runs: what is always is the same number taken or held
+claims-any-enables : (f : Fact) (t t′ : Bool) {x x′ own own′ : ℕ} → Claims f x x′ → Claims (alwaysOrMarked f) own own′
+    → Claims (alwaysOrMarked f) (cond t own x) (cond t′ own′ x′)
+claims-any-enables (Always n) t t′ h k = claims-any-arms (Always n) t t′ h k
+claims-any-enables Open t t′ h k = nothing
+claims-any-enables Marked t t′ h k = nothing
+
+-- where its fact is claimed of what the register has, it is claimed of what it has after a tick
+pub claims-enabled : (w n : ℕ) {x y : Fact} {a a′ b b′ own own′ : ℕ} → Claims x a a′ → Claims y b b′
+    → Claims (enabledRule w n x y) own own′
+    → Claims (enabledRule w n x y) (takeOrHold w a b own) (takeOrHold w a′ b′ own′)
+claims-enabled w n h (number {n = k}) held = claims-same-enable (eqb k 0) n (claims-register w n h) held
+claims-enabled w n h (alike {x = b}) held = claims-either-arm (eqb b 0) (claims-register w n h) held
+claims-enabled w n {x} h (nothing {x = b} {y = b′}) held =
+    claims-any-enables (registerRule w n x) (eqb b 0) (eqb b′ 0) (claims-register w n h) held

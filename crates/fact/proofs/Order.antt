@@ -12,7 +12,7 @@ use Rattle.circuit.specs.declared.operator.Operator as operator
 use Rattle.fact.specs.declared.Fact.{Fact}
 use Rattle.fact.specs.declared.Fact.the-variants.{Always, Open, Marked}
 use Rattle.fact.specs.Fact.{_⊑_, itself, always-open, always-marked, open-marked, same, join, narrow}
-use Rattle.fact.specs.Rule.{operatorRule, alwaysOrMarked, choose, multiplexerRule, registerRule}
+use Rattle.fact.specs.Rule.{operatorRule, alwaysOrMarked, choose, multiplexerRule, registerRule, enable, enabledRule}
 
 -- ---- the order
 
@@ -206,3 +206,40 @@ multiplexer-mono w ha hb hc = choose-mono ha (narrow-mono w hb) (narrow-mono w h
 
 pub register-mono : (w n : ℕ) {a a′ : Fact} → a ⊑ a′ → registerRule w n a ⊑ registerRule w n a′
 register-mono w n h = join-mono (narrow-mono w h) itself
+
+-- ---- a register with an enable
+
+pub register-above : (w n : ℕ) (a : Fact) → Always n ⊑ registerRule w n a
+register-above w n a = join-right (narrow w a) (Always n)
+
+cond-above : (t : Bool) {x y : Fact} → x ⊑ y → x ⊑ cond t x y
+cond-above true h = itself
+cond-above false h = h
+
+cond-below : (t : Bool) {x y : Fact} → x ⊑ y → cond t x y ⊑ y
+cond-below true h = h
+cond-below false h = itself
+
+enable-fact : (b : Fact) (n : ℕ) {f f′ : Fact} → f ⊑ f′ → enable b n f ⊑ enable b n f′
+enable-fact (Always k) n h = cond-mono (eqb k 0) itself h
+enable-fact Open n h = h
+enable-fact Marked n h = alwaysOrMarked-mono h
+
+module _ (n : ℕ) {f : Fact} (above : Always n ⊑ f) where
+  enable-up : {b b′ : Fact} → b ⊑ b′ → enable b n f ⊑ enable b′ n f
+  enable-up itself = itself
+  enable-up (always-open {n = k}) = cond-below (eqb k 0) above
+  enable-up (always-marked {n = k}) = ⊑-trans (cond-below (eqb k 0) above) (alwaysOrMarked-above f)
+  enable-up open-marked = alwaysOrMarked-above f
+
+  enable-above : (b : Fact) → Always n ⊑ enable b n f
+  enable-above (Always k) = cond-above (eqb k 0) above
+  enable-above Open = above
+  enable-above Marked = ⊑-trans above (alwaysOrMarked-above f)
+
+pub enabled-above : (w n : ℕ) (a b : Fact) → Always n ⊑ enabledRule w n a b
+enabled-above w n a b = enable-above n (register-above w n a) b
+
+pub enabled-mono : (w n : ℕ) {a a′ b b′ : Fact} → a ⊑ a′ → b ⊑ b′ → enabledRule w n a b ⊑ enabledRule w n a′ b′
+enabled-mono w n {a′ = x} {b = y} h k =
+    ⊑-trans (enable-fact y n (register-mono w n h)) (enable-up n (register-above w n x) k)

@@ -3,7 +3,7 @@
 use Prim.Native.Nat.{ℕ, suc, _*_}
 use Rattle.net.specs.Net.{sumRegisters, settle, count, stopped, Least}
 use Rattle.circuit.specs.declared.record.Record.{Record}
-use Rattle.circuit.specs.declared.record.Record.the-variants.{Input, Constant, Operator, Multiplexer, Register}
+use Rattle.circuit.specs.declared.record.Record.the-variants.{Input, Constant, Operator, Multiplexer, Register, Enabled}
 use Rattle.circuit.specs.Circuit.{Circuit, recordOf, graph}
 use Rattle.fact.specs.declared.Fact.{Fact}
 use Rattle.fact.specs.declared.Fact.the-variants.{Always, Open}
@@ -22,6 +22,7 @@ initialFact (Constant w n) = Open
 initialFact (Operator w op a b) = Open
 initialFact (Multiplexer w a b c) = Open
 initialFact (Register w a n) = Always n
+initialFact (Enabled w a b n) = Always n
 
 -- the store before any round
 unfoldable pub initialStore : Circuit → ℕ → Fact

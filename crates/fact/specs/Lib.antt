@@ -4,3 +4,4 @@ pub mod Rule
 pub mod Certificate
 pub mod TwoRuns
 pub mod Cases
+pub mod RequestCases

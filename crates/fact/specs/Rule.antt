@@ -7,7 +7,7 @@ use Rattle.circuit.specs.declared.operator.Operator as operator
 use Rattle.circuit.specs.declared.record.InputKind.{InputKind}
 use Rattle.circuit.specs.declared.record.InputKind.the-variants.{Fixed, Free, Secret}
 use Rattle.circuit.specs.declared.record.Record.{Record}
-use Rattle.circuit.specs.declared.record.Record.the-variants.{Input, Constant, Operator, Multiplexer, Register}
+use Rattle.circuit.specs.declared.record.Record.the-variants.{Input, Constant, Operator, Multiplexer, Register, Enabled}
 use Rattle.circuit.specs.Operator.{result}
 use Rattle.circuit.specs.Circuit.{Circuit, recordOf}
 use Rattle.fact.specs.declared.Fact.{Fact}
@@ -50,6 +50,17 @@ multiplexerRule w a b c = choose a (narrow w b) (narrow w c)
 abbrev pub registerRule : ℕ → ℕ → Fact → Fact
 registerRule w n a = join (narrow w a) (Always n)
 
+-- of a plain register's fact: enable always 0, always the power-on value; always another number or open, that fact;
+-- marked, that fact if it is always, else marked
+abbrev pub enable : Fact → ℕ → Fact → Fact
+enable (Always b) n f = cond (eqb b 0) (Always n) f
+enable Open n f = f
+enable Marked n f = alwaysOrMarked f
+
+-- a register with an enable, on the facts of A and B
+abbrev pub enabledRule : ℕ → ℕ → Fact → Fact → Fact
+enabledRule w n a b = enable b n (registerRule w n a)
+
 -- what a record's rule gives from a store
 unfoldable pub ruleOf : Record → (ℕ → Fact) → Fact
 unfolding result
@@ -58,6 +69,7 @@ ruleOf (Constant w n) s = Always n
 ruleOf (Operator w op a b) s = operatorRule op w (s a) (s b)
 ruleOf (Multiplexer w a b c) s = multiplexerRule w (s a) (s b) (s c)
 ruleOf (Register w a n) s = registerRule w n (s a)
+ruleOf (Enabled w a b n) s = enabledRule w n (s a) (s b)
 
 unfoldable pub rule : Circuit → (ℕ → Fact) → ℕ → Fact
 unfolding ruleOf

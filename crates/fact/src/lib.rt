@@ -118,3 +118,16 @@ pub fn register_rule(w: u8, n: u32, a: Fact) -> Fact
 {
     a.narrow(w).join(Fact::Always(n))
 }
+
+// The rule of a register with an enable, on the facts of A and B.
+pub fn enabled_rule(w: u8, n: u32, a: Fact, b: Fact) -> Fact
+    requires { ⌜ w ≤ 32 ⌝ }
+    ensures { λ r. ⌜ r ≡ rules.enabledRule w n a b ⌝ }
+{
+    let plain = register_rule(w, n, a);
+    match b {
+        Fact::Always(m) => if m == 0 { Fact::Always(n) } else { plain },
+        Fact::Open => plain,
+        Fact::Marked => plain.always_or_marked(),
+    }
+}

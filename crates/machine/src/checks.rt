@@ -66,6 +66,7 @@ fn check_poke(t: &[u8], n: usize, v: usize, x: u32, i: usize) -> Check
         Record::Operator(_, _, _, _) => Check::Refused(Ground::NotAnInput, i),
         Record::Multiplexer(_, _, _, _) => Check::Refused(Ground::NotAnInput, i),
         Record::Register(_, _, _) => Check::Refused(Ground::NotAnInput, i),
+        Record::Enabled(_, _, _, _) => Check::Refused(Ground::NotAnInput, i),
     }
 }
 

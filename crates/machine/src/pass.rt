@@ -6,6 +6,7 @@ ghost use Rattle.circuit.specs.Circuit.{circuit, recordOf, graph};
 ghost use Rattle.circuit.specs.Machine as definition;
 ghost use Rattle.engine.specs.Ready.{StoreLent, Evaluable, Wired};
 ghost use Rattle.machine.specs.State.{state};
+ghost use Rattle.machine.specs.Staging.{PlainUnless};
 use circuit::number::wide;
 use circuit::operator::evaluate;
 use circuit::operator::multiplex;
@@ -59,12 +60,24 @@ fn wire_value(t: &[u8], n: usize, values: &[u32], v: usize) -> u32
     }
 }
 
-// What register v's record gives.
-pub fn register_value(t: &[u8], n: usize, values: &[u32], v: usize) -> u32
+// What register v's record gives. One that is not of kind 4 has an enable. Where the table has none, no kind is read:
+// the loop over registers is then compiled for plain ones alone.
+pub fn register_value(t: &[u8], n: usize, values: &[u32], v: usize, enables: bool) -> u32
     requires { ⌜ Evaluable numbers net.register (now t) n (now values) v ⌝ }
+    requires { ⌜ PlainUnless enables (now t) n ⌝ }
     ensures { λ r. ⌜ r ≡ definition.values (circuit (now (t .entry)) n) (state (now (values .entry))) v ⌝ }
 {
-    remainder(values[a_at(t, v)], width_at(t, v))
+    let taken = remainder(values[a_at(t, v)], width_at(t, v));
+    if !enables {
+        return taken;
+    }
+    if kind_at(t, v) == 4 {
+        return taken;
+    }
+    if values[b_at(t, v)] == 0 {
+        return values[v];
+    }
+    taken
 }
 
 // The wires take their values, one after the other along their order.

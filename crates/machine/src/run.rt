@@ -11,10 +11,12 @@ ghost use Rattle.circuit.specs.Circuit.{circuit, graph};
 ghost use Rattle.circuit.specs.Machine as definition;
 ghost use Rattle.circuit.specs.Stimuli.{stimuli, checkStimulus, checkStimuli};
 ghost use Rattle.engine.specs.Ready.{Wired, Ready};
+ghost use Rattle.machine.specs.Staging.{PlainUnless};
 ghost use Rattle.machine.specs.Promise.{room};
 use crate::pass::settle;
 use crate::reader::read_stimulus;
 use crate::reader::stimulus_in;
+use crate::tick::has_enable;
 use crate::tick::tick;
 use circuit::number::wide;
 use net::Stimulus;
@@ -39,9 +41,11 @@ fn act(
     wires: usize,
     registers: usize,
     values: &mut [u32],
+    enables: bool,
     stimulus: Stimulus,
 )
     requires { ⌜ Ready numbers room (now t) n (now scratch) wires registers (now values) ⌝ }
+    requires { ⌜ PlainUnless enables (now t) n ⌝ }
     requires { ⌜ checkStimulus (circuit (now t) n) (Read stimulus) 0 ≡ Passed ⌝ }
     ensures { λ _. ⌜ KeptOutside (n + n) (n * room) (now (scratch .entry)) (now (scratch .exit)) ⌝ }
     ensures { λ _. ⌜ Moves numbers n (net.act (graph (circuit (now (t .entry)) n))
@@ -50,7 +54,7 @@ fn act(
 {
     match stimulus {
         Stimulus::Poke(v, x) => poke(t, n, scratch, wires, values, wide(v), x),
-        Stimulus::Tick => tick(t, n, scratch, wires, registers, values),
+        Stimulus::Tick => tick(t, n, scratch, wires, registers, values, enables),
     }
 }
 
@@ -72,12 +76,25 @@ pub fn run(
         (now (values .entry)) (now (values .exit)) ⌝ }
 {
     let count = s.len() / 8;
+    if count == 0 {
+        return;
+    }
+    let enables = has_enable(t, n, scratch, wires, registers, values);
     let mut at: usize = 0;
     let mut i: usize = 0;
     while i < count {
         let next = read_stimulus(s, at);
         let read = next.read;
-        act(t, n, scratch, wires, registers, values, stimulus_in(read));
+        act(
+            t,
+            n,
+            scratch,
+            wires,
+            registers,
+            values,
+            enables,
+            stimulus_in(read),
+        );
         at = next.at;
         i += 1;
     }

@@ -1,6 +1,6 @@
 -- What the walk reads of a record, and what the record is: whether it is a wire, and what it uses.
 -- Assumes nothing.
-use mathlib.Core.Path.{_≡_, refl, sym, ap, _∙_}
+use mathlib.Core.Path.{_≡_, sym, ap, _∙_, subst}
 use mathlib.Core.Bool.{true, false}
 use mathlib.Core.List.{List}
 use Prim.Native.Nat.{ℕ, suc, _+_, _*_, _≤_, _<_}
@@ -13,28 +13,25 @@ use Rattle.net.proofs.Bools.{true-false}
 use Rattle.net.proofs.Loops.{member-getD, member-place}
 use Rattle.net.proofs.Settle.{by-role}
 use Rattle.circuit.specs.declared.record.Record.{Record}
-use Rattle.circuit.specs.declared.record.Record.the-variants.{Input, Constant, Operator, Multiplexer, Register}
 use Rattle.circuit.specs.Record.{role, uses, wireUses, isRegister}
-use Rattle.circuit.specs.Reading.{fieldsAt, decode}
+use Rattle.circuit.specs.Reading.{fieldsAt, decode, encode}
 use Rattle.circuit.specs.Circuit.{Circuit, circuit, recordOf, graph}
+use Rattle.circuit.proofs.Decoding.{wireUses-most}
+use Rattle.circuit.proofs.Records.{decode-encode}
 use Rattle.circuit.proofs.Tables.{Inside, circuit-record}
 use Rattle.schedule.specs.Walk.{last, used}
 
 -- ---- records
 
 record-most : (r : Record) → wireUses r ≤ 4
-record-most (Input w k) = omega arith
-record-most (Constant w n) = omega arith
-record-most (Operator w op a b) = omega arith
-record-most (Multiplexer w a b c) = omega arith
-record-most (Register w a n) = omega arith
+record-most r = subst (λ (x : Record). wireUses x ≤ 4) (decode-encode r) (wireUses-most (encode r))
 
 record-wire : (r : Record) → 0 < wireUses r → role r ≡ wire
-record-wire (Input w k) h = absurd (not-suc-le-zero h)
-record-wire (Constant w n) h = refl
-record-wire (Operator w op a b) h = refl
-record-wire (Multiplexer w a b c) h = refl
-record-wire (Register w a n) h = absurd (not-suc-le-zero h)
+record-wire r h =
+    by-role (role r)
+    (λ q. absurd (not-suc-le-zero (rw (q, wireUses) at h)))
+    (λ q. q)
+    (λ q. absurd (not-suc-le-zero (rw (q, wireUses) at h)))
 
 wire-uses : (r : Record) → role r ≡ wire → wireUses r ≡ suc (length (uses r))
 wire-uses r e = rw (e, wireUses)

@@ -6,14 +6,15 @@ mod common;
 mod lent;
 
 use common::document_cases::document_cases;
+use common::enable_cases::enable_cases;
 use common::grounds::{list_that_meets, sound_stimuli, stimulus_that_meets_only, table_that_meets};
 use common::hand_runs::hand_runs;
-use common::samples::{every_rule, one_of_each, samples, BOUNDARY_VALUES};
+use common::samples::{every_rule, one_of_each, samples, BOUNDARY_VALUES, ENABLED, REGISTER};
 use common::shapes::{chain, layers, random_pair, register_chain, register_ring, turned};
 use common::tables::{damage, random_stimuli, random_table};
 use common::{
-    cases, fixed, free, operator, poke_bytes, register, secret, widened, Random, RecordBytes, Table,
-    MOST_RECORDS, MOST_STIMULI, TICK,
+    cases, enabled, fixed, free, operator, poke_bytes, register, secret, widened, Random, RecordBytes,
+    Table, MOST_RECORDS, MOST_STIMULI, TICK,
 };
 use lent::answers::random_calls;
 use lent::{held_to_model, Buffers, Inputs, Lengths};
@@ -74,8 +75,8 @@ fn compare_on_some_lists(table: &[u8]) {
 }
 
 #[test]
-fn cases_a_to_m() {
-    for case in document_cases() {
+fn cases_worked_by_hand() {
+    for case in document_cases().into_iter().chain(enable_cases()) {
         println!("case {}", case.name);
         compare_on_some_lists(&case.table);
     }
@@ -88,15 +89,17 @@ fn sample_tables() {
     }
 }
 
-/// Asserts that a call that meets these grounds among 1 to 17, those of a stimulus behind so many sound ones,
-/// is refused on the first of them.
-fn assert_first(meets: impl Fn(u32) -> bool + Copy, behind: usize) {
-    let (table, list) = (table_that_meets(meets), list_that_meets(meets, behind));
+/// Asserts that a call that meets these grounds among 1 to 17, those of a record at this register and those of
+/// a stimulus behind so many sound ones, is refused on the first of them.
+fn assert_first(meets: impl Fn(u32) -> bool + Copy, register: usize, behind: usize) {
+    let (table, list) = (table_that_meets(meets, register), list_that_meets(meets, behind));
     let first = (1..=17).find(|&ground| meets(ground));
     let answer = bench_on(&table, &list, asked(&table).that_meet(meets));
     assert_eq!(answer.err().map(|refusal| refusal.ground), first);
-    if let (Err(Refusal { place, .. }), Some(14..)) = (answer, first) {
-        assert_eq!(place, behind);
+    match (answer, first) {
+        (Err(Refusal { place, .. }), Some(5..=10)) => assert_eq!(place, register),
+        (Err(Refusal { place, .. }), Some(14..)) => assert_eq!(place, behind),
+        _ => {}
     }
 }
 
@@ -105,7 +108,9 @@ fn every_set_of_grounds() {
     // Ground 1 takes the largest buffers, and is met beside at most two others.
     let quick = |set: &u32| set & 1 == 0 || set.count_ones() <= 3;
     for set in (0..1 << 17).filter(quick) {
-        assert_first(|ground| set >> (ground - 1) & 1 == 1, 0);
+        for register in [REGISTER, ENABLED] {
+            assert_first(|ground| set >> (ground - 1) & 1 == 1, register, 0);
+        }
     }
 }
 
@@ -113,7 +118,7 @@ fn every_set_of_grounds() {
 fn every_set_of_grounds_on_later_stimuli() {
     for behind in [1, 2, 7, 300, MOST_STIMULI - 1] {
         for set in 0..1 << 6 {
-            assert_first(|ground| ground >= 12 && set >> (ground - 12) & 1 == 1, behind);
+            assert_first(|ground| ground >= 12 && set >> (ground - 12) & 1 == 1, REGISTER, behind);
         }
     }
 }
@@ -223,7 +228,7 @@ fn every_rule_at_every_width() {
         let (free, secret) = (count as u16, count as u16 + 1);
         for (i, n) in BOUNDARY_VALUES.into_iter().enumerate() {
             let other = BOUNDARY_VALUES[(i + 3) % count];
-            let list = [poke_bytes(free, n), TICK, poke_bytes(secret, n), poke_bytes(free, other)];
+            let list = [poke_bytes(free, n), TICK, poke_bytes(secret, n), poke_bytes(free, other), TICK];
             assert_eq!(bench(table.as_flattened(), list.as_flattened()), Ok(()));
         }
     }
@@ -324,7 +329,10 @@ fn a_poke_reaches_the_last_wire() {
 #[test]
 fn the_largest_table_with_the_longest_list() {
     let mut random = Random::of_test("largest table, longest list", 46);
-    let table = behind_an_input(MOST_RECORDS, |before| register(32, 7, before));
+    let table = behind_an_input(MOST_RECORDS, |before| match before % 2 {
+        0 => register(32, 7, before),
+        _ => enabled(32, 7, before, before - 1),
+    });
     assert_eq!(bench_randomly(&mut random, &table, MOST_STIMULI), Ok(()));
     assert_eq!(bench_randomly(&mut random, &turned(&table), MOST_STIMULI), Ok(()));
 }

@@ -8,7 +8,7 @@ mod programs;
 use common::grounds::{list_that_meets, table_that_meets};
 use common::hand_runs::hand_runs;
 use common::printed::printed_values;
-use common::samples::{one_of_each, samples, OPERATOR, REGISTER};
+use common::samples::{one_of_each, samples, ENABLED, OPERATOR, REGISTER};
 use common::shapes::{chain, random_pair, register_ring};
 use common::tables::{damage, random_stimuli};
 use common::{bench_longer, cases, constant, poke_bytes, Random, MOST_RECORDS, MOST_STIMULI, TICK};
@@ -85,10 +85,11 @@ fn sample_tables() {
     }
 }
 
-/// What is printed on this ground for the table and the list that meet it, the latter behind so many stimuli.
-fn refusal_printed(ground: u32, behind: usize) -> String {
+/// What is printed on this ground for the table and the list that meet it: the table at this register, the list
+/// behind so many stimuli.
+fn refusal_printed(ground: u32, register: usize, behind: usize) -> String {
     match ground {
-        5..=10 => format!("refused {ground} at {REGISTER}\n"),
+        5..=10 => format!("refused {ground} at {register}\n"),
         11 => format!("refused 11 at 1\n{OPERATOR}\n"),
         14..=17 => format!("refused {ground} at {behind}\n"),
         _ => format!("refused {ground} at 0\n"),
@@ -100,15 +101,15 @@ fn every_ground_alone_and_before_all_later_ones() {
     let folder = Folder::of_test("grounds");
     // The program lends its own buffers, which are never short.
     for first in (1..=17).filter(|ground| ![3, 4].contains(ground)) {
-        for behind in [0, 300] {
+        for (register, behind) in [(REGISTER, 0), (REGISTER, 300), (ENABLED, 0), (ENABLED, 300)] {
             let alone = |ground: u32| ground == first;
             let with_later = |ground: u32| ground >= first;
             let calls = [
-                (table_that_meets(alone), list_that_meets(alone, behind)),
-                (table_that_meets(with_later), list_that_meets(with_later, behind)),
+                (table_that_meets(alone, register), list_that_meets(alone, behind)),
+                (table_that_meets(with_later, register), list_that_meets(with_later, behind)),
             ];
             for (table, list) in calls {
-                assert_eq!(folder.output(&table, &list), refusal_printed(first, behind));
+                assert_eq!(folder.output(&table, &list), refusal_printed(first, register, behind));
             }
         }
     }

@@ -6,8 +6,9 @@ mod common;
 mod lent;
 
 use common::document_cases::document_cases;
+use common::enable_cases::enable_cases;
 use common::grounds::table_that_meets;
-use common::samples::{every_rule, samples};
+use common::samples::{every_rule, one_of_each, samples, ENABLED, REGISTER};
 use common::shapes::{chain, layers, random_shape, register_chain, register_ring, turned};
 use common::tables::{damage, random_table};
 use common::{cases, Random, MOST_RECORDS};
@@ -46,8 +47,8 @@ fn compare_on_all_lengths(table: &[u8]) {
 }
 
 #[test]
-fn cases_a_to_m() {
-    for case in document_cases() {
+fn cases_worked_by_hand() {
+    for case in document_cases().into_iter().chain(enable_cases()) {
         println!("case {}", case.name);
         compare_on_all_lengths(&case.table);
     }
@@ -64,10 +65,23 @@ fn sample_tables() {
 fn every_set_of_grounds() {
     for set in 0..1 << 11 {
         let meets = |ground: u32| set >> (ground - 1) & 1 == 1;
-        let table = table_that_meets(meets);
         let first = (1..=11).find(|&ground| meets(ground));
-        let refusal = certify_on(&table, asked(&table).that_meet(meets)).err();
-        assert_eq!(refusal.map(|refusal| refusal.ground), first, "grounds {set:#b}");
+        for register in [REGISTER, ENABLED] {
+            let table = table_that_meets(meets, register);
+            let refusal = certify_on(&table, asked(&table).that_meet(meets)).err();
+            assert_eq!(refusal.map(|refusal| refusal.ground), first, "grounds {set:#b} at {register}");
+        }
+    }
+}
+
+#[test]
+fn every_byte_of_a_record() {
+    for i in 0..one_of_each().len() {
+        for (place, byte) in (0..16).flat_map(|place| (0..=255).map(move |byte| (place, byte))) {
+            let mut table = one_of_each();
+            table[i][place] = byte;
+            let _ = certify(table.as_flattened());
+        }
     }
 }
 

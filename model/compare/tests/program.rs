@@ -6,6 +6,7 @@ mod common;
 mod programs;
 
 use common::document_cases::document_cases;
+use common::enable_cases::enable_cases;
 use common::printed::printed_certificate;
 use common::samples::samples;
 use common::shapes::{chain, random_shape, register_ring};
@@ -48,8 +49,8 @@ fn assert_writes_certificate(table: &[u8], printed: &str) {
 }
 
 #[test]
-fn cases_a_to_m() {
-    for case in document_cases() {
+fn cases_worked_by_hand() {
+    for case in document_cases().into_iter().chain(enable_cases()) {
         assert_eq!(output(&case.table), case.printed, "case {}", case.name);
         assert_writes_certificate(&case.table, case.printed);
     }

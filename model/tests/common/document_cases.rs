@@ -15,7 +15,8 @@ pub fn document_cases() -> Vec<Case> {
     [variations_of_a(), registers(), rules(), lengths(), loops_and_values()].into_iter().flatten().collect()
 }
 
-fn case(name: &'static str, records: Table, printed: &'static str) -> Case {
+/// The case of a table of these records.
+pub fn case(name: &'static str, records: Table, printed: &'static str) -> Case {
     Case { name, table: records.as_flattened().to_vec(), printed }
 }
 

@@ -2,16 +2,16 @@
 //! that does.
 
 use super::orders::{LARGEST_SIZE, MOST_SIZES};
-use super::samples::{changed, one_of_each, CONSTANT, FIXED, FREE, OPERATOR, REGISTER};
+use super::samples::{changed, one_of_each, CONSTANT, FIXED, FREE, OPERATOR};
 use super::{poke_bytes, StimulusBytes, MOST_RECORDS, MOST_STIMULI, TICK};
 
-/// A table that meets each of these grounds among 1, 2 and 5 to 11. Its register meets those of 5 to 10, and
-/// its operator is the loop.
-pub fn table_that_meets(meets: impl Fn(u32) -> bool) -> Vec<u8> {
+/// A table that meets each of these grounds among 1, 2 and 5 to 11. Its register at this place, with an enable
+/// or without, meets those of 5 to 10, and its operator is the loop.
+pub fn table_that_meets(meets: impl Fn(u32) -> bool, register: usize) -> Vec<u8> {
     let mut records = one_of_each();
-    let changes = [(0, 5), (1, 33), (2, 1), (3, 1), (4, records.len() as u8), (15, 128)];
+    let changes = [(0, 6), (1, 33), (2, 1), (3, 1), (4, records.len() as u8), (15, 128)];
     for (_, change) in (5..).zip(changes).filter(|&(ground, _)| meets(ground)) {
-        records[REGISTER] = changed(records[REGISTER], &[change]);
+        records[register] = changed(records[register], &[change]);
     }
     if meets(11) {
         records[OPERATOR] = changed(records[OPERATOR], &[(4, OPERATOR as u8)]);

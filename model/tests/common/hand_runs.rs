@@ -1,10 +1,12 @@
-//! Bench runs worked by hand: document 000's figure 1, case A, and two registers that feed each other.
+//! Bench runs worked by hand: document 000's figure 1, case A, two registers that feed each other, and
+//! registers with an enable.
 
 use super::document_cases::case_a;
 use super::{
-    constant, fixed, free, multiplexer, operator, poke_bytes, register, RecordBytes, StimulusBytes, TICK,
+    constant, enabled, fixed, free, multiplexer, operator, poke_bytes, register, RecordBytes,
+    StimulusBytes, TICK,
 };
-use model::Operator::{Add, Less, Subtract};
+use model::Operator::{Add, Equal, Less, Subtract};
 
 /// A run: its table and stimuli, and the values in the end.
 pub struct Run {
@@ -16,7 +18,9 @@ pub struct Run {
 
 /// Every run, at power-on and after each of its stimuli.
 pub fn hand_runs() -> Vec<Run> {
-    [accumulator(), case_a_counting(), exchange()].into_iter().flatten().collect()
+    let of_registers = [accumulator(), case_a_counting(), exchange()];
+    let with_an_enable = [hold_and_load(), enable_before_the_tick(), own_enable(), enable_each_other()];
+    of_registers.into_iter().chain(with_an_enable).flatten().collect()
 }
 
 /// The runs that these steps make, each a stimulus and the values after it: with none, the first, and so on.
@@ -93,4 +97,78 @@ fn exchange() -> Vec<Run> {
         (TICK, [9, 5, 3, 0, 12]),
     ];
     runs("exchange", table, [9, 19, 5, 0, 10], &steps)
+}
+
+/// A register of width 4 with an enable of width 8, which holds over several ticks, takes its data narrowed,
+/// and takes it too where the enable is 16, whose remainder by 2^4 is 0; a sum with what it holds; and a
+/// register fed by itself, which holds either way.
+fn hold_and_load() -> Vec<Run> {
+    let table = [free(8), free(8), enabled(4, 9, 0, 1), operator(Add, 8, 2, 1), enabled(4, 6, 4, 1)];
+    let steps = [
+        (TICK, [0, 0, 9, 9, 6]),
+        (poke_bytes(0, 53), [53, 0, 9, 9, 6]),
+        (TICK, [53, 0, 9, 9, 6]),
+        (TICK, [53, 0, 9, 9, 6]),
+        (poke_bytes(1, 16), [53, 16, 9, 25, 6]),
+        (TICK, [53, 16, 5, 21, 6]),
+        (poke_bytes(1, 0), [53, 0, 5, 5, 6]),
+        (poke_bytes(0, 2), [2, 0, 5, 5, 6]),
+        (TICK, [2, 0, 5, 5, 6]),
+        (poke_bytes(1, 1), [2, 1, 5, 6, 6]),
+        (TICK, [2, 1, 2, 3, 6]),
+        (poke_bytes(0, 16), [16, 1, 2, 3, 6]),
+        (TICK, [16, 1, 0, 1, 6]),
+    ];
+    runs("hold and load", table, [0, 0, 9, 9, 6], &steps)
+}
+
+/// A register that is 0 and 1 in turn is the enable of two others: they take their data where it was 1 before
+/// the tick, which makes it 0, and the second takes what the first held before.
+fn enable_before_the_tick() -> Vec<Run> {
+    let table = [
+        free(8),
+        register(1, 0, 2),
+        operator(Equal, 1, 1, 3),
+        constant(1, 0),
+        enabled(8, 200, 0, 1),
+        enabled(8, 100, 4, 1),
+    ];
+    let steps = [
+        (poke_bytes(0, 7), [7, 0, 1, 0, 200, 100]),
+        (TICK, [7, 1, 0, 0, 200, 100]),
+        (TICK, [7, 0, 1, 0, 7, 200]),
+        (TICK, [7, 1, 0, 0, 7, 200]),
+        (TICK, [7, 0, 1, 0, 7, 7]),
+    ];
+    runs("enable before the tick", table, [0, 0, 1, 0, 200, 100], &steps)
+}
+
+/// Registers that are their own enable: one takes its data until that is 0 at its width, the other never.
+fn own_enable() -> Vec<Run> {
+    let table = [free(8), enabled(4, 5, 0, 1), enabled(4, 0, 0, 2)];
+    let steps = [
+        (poke_bytes(0, 35), [35, 5, 0]),
+        (TICK, [35, 3, 0]),
+        (poke_bytes(0, 16), [16, 3, 0]),
+        (TICK, [16, 0, 0]),
+        (poke_bytes(0, 9), [9, 0, 0]),
+        (TICK, [9, 0, 0]),
+    ];
+    runs("own enable", table, [0, 5, 0], &steps)
+}
+
+/// Two registers that enable each other: one is not 0 at power-on, and both hold once both are 0.
+fn enable_each_other() -> Vec<Run> {
+    let table = [free(4), enabled(4, 1, 0, 2), enabled(4, 0, 0, 1)];
+    let steps = [
+        (TICK, [0, 1, 0]),
+        (poke_bytes(0, 6), [6, 1, 0]),
+        (TICK, [6, 1, 6]),
+        (TICK, [6, 6, 6]),
+        (poke_bytes(0, 0), [0, 6, 6]),
+        (TICK, [0, 0, 0]),
+        (poke_bytes(0, 9), [9, 0, 0]),
+        (TICK, [9, 0, 0]),
+    ];
+    runs("enable each other", table, [0, 1, 0], &steps)
 }

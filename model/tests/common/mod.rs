@@ -1,13 +1,14 @@
 //! What the tests share: records and stimuli from their fields, a seeded generator of random numbers, and
 //! the two calls on tables made on buffers whose contents are checked afterwards by document 01's clauses.
 //! Random tables and lists come from `tables`, and tables of one shape from `shapes`; document 01's cases
-//! are in `document_cases`, further tables in `samples`, what meets a set of grounds in `grounds`, and bench
-//! runs in `hand_runs`. `orders` has orders and the call for a bill, `printed` the lines that the programs
-//! print, and `two_runs` tries demand 3 on any two calls.
+//! are in `document_cases`, those of registers with an enable in `enable_cases`, further tables in `samples`,
+//! what meets a set of grounds in `grounds`, and bench runs in `hand_runs`. `orders` has orders and the call
+//! for a bill, `printed` the lines that the programs print, and `two_runs` tries demand 3 on any two calls.
 
 #![allow(dead_code)] // each test file uses a part
 
 pub mod document_cases;
+pub mod enable_cases;
 pub mod grounds;
 pub mod hand_runs;
 pub mod orders;
@@ -79,6 +80,11 @@ pub fn multiplexer(w: u8, a: u16, b: u16, c: u16) -> RecordBytes {
 /// A register of width w with a power-on value, fed by A.
 pub fn register(w: u8, power_on: u32, a: u16) -> RecordBytes {
     record(4, w, 0, [a, 0, 0], power_on)
+}
+
+/// A register of width w with a power-on value, fed by A where the enable B is not 0.
+pub fn enabled(w: u8, power_on: u32, a: u16, b: u16) -> RecordBytes {
+    record(5, w, 0, [a, b, 0], power_on)
 }
 
 /// The 8 bytes of a poke.

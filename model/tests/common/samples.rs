@@ -3,7 +3,8 @@
 //! from these: a table of one record of each sort, and one of every rule.
 
 use super::{
-    constant, fixed, free, multiplexer, operator, register, secret, RecordBytes, Table, MOST_RECORDS,
+    constant, enabled, fixed, free, multiplexer, operator, register, secret, RecordBytes, Table,
+    MOST_RECORDS,
 };
 use model::{read_records, remainder, Operator};
 
@@ -13,7 +14,7 @@ pub fn add(variable: u16) -> RecordBytes {
 }
 
 /// One record of each sort that grounds 7 to 10 and 15 to 17 tell apart, and no loop.
-pub fn one_of_each() -> [RecordBytes; 7] {
+pub fn one_of_each() -> [RecordBytes; 8] {
     [
         fixed(4, 9),
         free(4),
@@ -22,6 +23,7 @@ pub fn one_of_each() -> [RecordBytes; 7] {
         operator(Operator::Add, 4, 0, 1),
         multiplexer(4, 0, 1, 2),
         register(4, 1, 5),
+        enabled(4, 2, 5, 6),
     ]
 }
 
@@ -33,6 +35,7 @@ pub const CONSTANT: usize = 3;
 pub const OPERATOR: usize = 4;
 pub const MULTIPLEXER: usize = 5;
 pub const REGISTER: usize = 6;
+pub const ENABLED: usize = 7;
 
 /// Boundary values of the rules, the shifts' among them.
 pub const BOUNDARY_VALUES: [u32; 7] = [0, 1, 5, 31, 32, 1 << 31, u32::MAX];
@@ -48,7 +51,8 @@ pub fn every_rule(w: u8) -> Table {
     let multiplexers = all.clone().flat_map(|a| pairs.iter().map(move |&(b, c)| multiplexer(w, a, b, c)));
     let power_ons = [0, 1, remainder(u32::MAX, u32::from(w))];
     let registers = all.flat_map(|a| power_ons.map(|n| register(w, n, a)));
-    let records: Table = operators.chain(multiplexers).chain(registers).collect();
+    let with_enables = pairs.iter().flat_map(|&(a, b)| power_ons.map(|n| enabled(w, n, a, b)));
+    let records: Table = operators.chain(multiplexers).chain(registers).chain(with_enables).collect();
     [inputs, records].concat()
 }
 
@@ -97,10 +101,19 @@ fn orders() -> Vec<Table> {
         vec![register(8, 7, 0)],
         // A loop broken by a register.
         vec![add(2), add(0), register(8, 0, 1)],
+        // A loop broken by a register with an enable: through its data, through its enable, and through both.
+        vec![add(2), add(0), enabled(8, 0, 1, 3), free(8)],
+        vec![add(2), add(0), enabled(8, 0, 3, 1), free(8)],
+        vec![add(2), add(0), enabled(8, 0, 1, 0)],
+        // A register fed and enabled by itself.
+        vec![enabled(8, 7, 0, 0)],
         // Registers among wires.
         vec![register(8, 1, 4), add(4), register(8, 2, 2), add(1), constant(8, 9), register(8, 3, 3)],
+        // Registers with and without an enable among wires.
+        vec![add(2), enabled(8, 1, 0, 4), add(5), register(8, 2, 1), enabled(8, 3, 4, 2), constant(8, 9)],
         // Inputs and registers only.
         vec![fixed(8, 255), register(8, 0, 0), free(8), register(8, 0, 1), secret(8)],
+        vec![enabled(8, 1, 1, 2), enabled(8, 0, 2, 0), free(8), register(8, 3, 1)],
     ]
 }
 
@@ -125,6 +138,8 @@ fn loops() -> Vec<Table> {
             multiplexer(8, 0, 1, 0),
             multiplexer(8, 3, 2, 0),
         ],
+        // A loop beside a register with an enable, whose data and enable are on it and which it uses.
+        vec![enabled(8, 0, 1, 2), operator(Operator::And, 8, 0, 2), add(1)],
         // A loop of two wires, one of which uses a wire outside, and which a wire outside uses.
         vec![constant(8, 1), operator(Operator::Subtract, 8, 2, 0), add(1), add(2)],
     ]
@@ -147,10 +162,11 @@ fn damaged_fields() -> Vec<Table> {
         (operator(Operator::Add, 1, 0, 0), 9),
         (multiplexer(1, 0, 0, 0), 1),
         (register(1, 1, 0), 1),
+        (enabled(1, 1, 0, 0), 1),
     ];
     // A variable number becomes 2 or 256, the value at least 2: neither used nor unused ones can be so.
     let changes = [
-        [(0, 5), (0, 255), (1, 0), (1, 33), (1, 255), (2, 255), (3, 1), (10, 1), (11, 1)].as_slice(),
+        [(0, 6), (0, 255), (1, 0), (1, 33), (1, 255), (2, 255), (3, 1), (10, 1), (11, 1)].as_slice(),
         &[(4, 2), (5, 1), (6, 2), (7, 1), (8, 2), (9, 1), (12, 2), (13, 1), (14, 1), (15, 128)],
     ]
     .concat();
@@ -174,16 +190,21 @@ pub fn changed(mut record: RecordBytes, changes: &[(usize, u8)]) -> RecordBytes 
 /// Tables that meet several grounds, of which the first is the answer.
 fn first_grounds() -> Vec<Table> {
     // Grounds 5 to 10, each by one byte of a register in a table of one record.
-    let changes = [(0, 5), (1, 33), (2, 1), (3, 1), (4, 1), (15, 128)];
-    let repaired = |from: usize| vec![changed(register(31, 0, 0), &changes[from..])];
-    let grounds: Vec<Table> = (0..changes.len()).map(repaired).collect();
-    for (place, table) in grounds.iter().enumerate() {
-        assert_eq!(read_records(table.as_flattened()).unwrap_err().ground, 5 + place as u32);
+    let of_register = [(0, 6), (1, 33), (2, 1), (3, 1), (4, 1), (15, 128)];
+    // Of one with an enable 8 by C, which is past the table too, and 9 by B.
+    let of_enabled = [(0, 6), (1, 33), (2, 1), (8, 1), (6, 1), (15, 128)];
+    let repaired = |record: RecordBytes, changes: [(usize, u8); 6]| {
+        (0..changes.len()).map(move |from| vec![changed(record, &changes[from..])])
+    };
+    let plain = repaired(register(31, 0, 0), of_register);
+    let grounds: Vec<Table> = plain.chain(repaired(enabled(31, 0, 0, 0), of_enabled)).collect();
+    for (table, ground) in grounds.iter().zip((5..=10).cycle()) {
+        assert_eq!(read_records(table.as_flattened()).unwrap_err().ground, ground);
     }
     let sound = constant(8, 1);
     let records = vec![
         // Two grounds on each of two records: the first record's come first, and of these the lower.
-        vec![changed(add(0), &[(1, 0), (5, 1)]), changed(sound, &[(0, 5), (13, 1)])],
+        vec![changed(add(0), &[(1, 0), (5, 1)]), changed(sound, &[(0, 6), (13, 1)])],
         vec![changed(sound, &[(3, 1), (13, 1)]), changed(add(0), &[(1, 0), (2, 9)])],
         // A refusal on a later record, behind a loop.
         vec![add(0), sound, sound, changed(sound, &[(2, 1)]), sound],

@@ -1,20 +1,20 @@
 //! Random tables of given shapes, without a loop: layers, deep chains of wires, chains of registers, and the
 //! ring of registers that takes the most rounds. Each is made with its uses pointing back, but for some of
-//! a register's, and can then be put in another order.
+//! a register's, and can then be put in another order. In all of them some registers have an enable.
 
 use super::tables::{
     random_kind, random_record, random_stimuli, random_table, random_use, random_width, renumbered,
-    MIXTURES, WIDTHS,
+    Mixture, MIXTURES, WIDTHS,
 };
-use super::{constant, multiplexer, register, secret, Random, RecordBytes, Table};
-use model::read_records;
+use super::{constant, enabled, multiplexer, register, secret, Random, RecordBytes, Table};
+use model::{read_records, Kind};
 use std::ops::Range;
 
-/// The kinds of a chain of wires, of which few are inputs or constants.
-const WIRES: [usize; 5] = [1, 1, 16, 16, 0];
+/// The kinds of a chain of wires, of which few are inputs or constants, with a register here and there.
+const WIRES: Mixture = [1, 1, 30, 30, 1, 1];
 
 /// The kinds of a chain of registers, with a wire here and there.
-const REGISTERS: [usize; 5] = [0, 0, 1, 1, 10];
+const REGISTERS: Mixture = [0, 0, 1, 1, 6, 4];
 
 /// The fewest records of a ring: three, and one register.
 const LEAST_RING: usize = 4;
@@ -33,6 +33,12 @@ pub fn random_shape(random: &mut Random, n: usize, loops: bool) -> Table {
         rewire(random, &mut table);
     }
     in_some_order(random, &table)
+}
+
+/// A random table of n records without a loop, or one of a random shape, as often.
+pub fn table_or_shape(random: &mut Random, n: usize) -> Table {
+    let make = if random.percent(50) { random_table } else { random_shape };
+    make(random, n, false)
 }
 
 /// A random table of n records of a random shape, some with a loop, and a list of so many stimuli for it.
@@ -61,7 +67,7 @@ pub fn chain(random: &mut Random, n: usize) -> Table {
 pub fn register_chain(random: &mut Random, n: usize) -> Table {
     let reach = random.pick(&[1, 1, 2]);
     let mut table = shaped(random, n, &REGISTERS, |i| i.saturating_sub(reach)..i);
-    for record in table.iter_mut().filter(|record| record[0] == 4) {
+    for record in table.iter_mut().filter(|record| kind_of(record).is_register()) {
         if random.percent(97) {
             record[12..].fill(0);
         }
@@ -70,11 +76,15 @@ pub fn register_chain(random: &mut Random, n: usize) -> Table {
 }
 
 /// Registers in a ring, which take two rounds each: constant 1 makes them open one after another, and the
-/// last opens the multiplexer through which the secret input then marks them one after another.
+/// last opens the multiplexer through which the secret input then marks them one after another. Some have
+/// an enable that keeps none of them back and marks none too early: constant 1, or their data.
 pub fn register_ring(random: &mut Random, n: usize) -> Table {
     let n = n.max(LEAST_RING);
     let start = [secret(8), constant(1, 1), multiplexer(8, n as u16 - 1, 0, 1)];
-    let ring = (3..n).map(|i| register(1 + random.below(32) as u8, 0, i as u16 - 1));
+    let ring = (3..n as u16).map(|i| {
+        let (w, data) = (1 + random.below(32) as u8, i - 1);
+        random.pick(&[register(w, 0, data), enabled(w, 0, data, 1), enabled(w, 0, data, data)])
+    });
     start.into_iter().chain(ring).collect()
 }
 
@@ -83,26 +93,34 @@ pub fn register_ring(random: &mut Random, n: usize) -> Table {
 fn shaped(
     random: &mut Random,
     n: usize,
-    mixture: &[usize; 5],
+    mixture: &Mixture,
     window: impl Fn(usize) -> Range<usize>,
 ) -> Table {
     let widths = random.pick(&WIDTHS);
     let mut record = |i: usize| -> RecordBytes {
         let before: Vec<usize> = window(i).collect();
-        let kind = if before.is_empty() { 0 } else { random_kind(random, mixture) };
-        let any = kind == 4 && random.percent(3);
-        let uses = [0; 3].map(|_| random_use(random, &before, n, any));
+        let kind = if before.is_empty() { Kind::Input } else { random_kind(random, mixture) };
+        let uses = [0; 3].map(|_| {
+            let any = kind.is_register() && random.percent(3);
+            random_use(random, i, &before, n, any)
+        });
         let w = random_width(random, widths);
         random_record(random, kind, w, uses)
     };
     (0..n).map(&mut record).collect()
 }
 
+/// The kind of a record that meets no ground.
+fn kind_of(record: &RecordBytes) -> Kind {
+    Kind::with_number(record[0])
+}
+
 /// Makes any variable the A of one wire, which often closes a loop.
 fn rewire(random: &mut Random, table: &mut Table) {
     let n = table.len();
     let wire = random.below(n);
-    if [2, 3].contains(&table[wire][0]) {
+    let kind = kind_of(&table[wire]);
+    if kind.is_wire() && kind.uses() > 0 {
         let variable = random.below(n) as u16;
         table[wire][4..6].copy_from_slice(&variable.to_le_bytes());
     }

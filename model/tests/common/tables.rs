@@ -1,14 +1,18 @@
 //! Random tables, random lists of stimuli, and damage to both.
 
 use super::{
-    constant, fixed, free, multiplexer, operator, poke_bytes, register, secret, Random, RecordBytes,
-    StimulusBytes, Table, TICK,
+    constant, enabled, fixed, free, multiplexer, operator, poke_bytes, register, secret, Random,
+    RecordBytes, StimulusBytes, Table, TICK,
 };
-use model::{remainder, InputKind, Operator, Record};
+use model::{remainder, InputKind, Kind, Operator, Record};
 
-/// How often each kind (input, constant, operator, multiplexer, register) occurs in a random table.
-pub(super) const MIXTURES: [[usize; 5]; 5] =
-    [[3, 1, 4, 4, 4], [2, 1, 6, 2, 2], [1, 1, 1, 1, 6], [2, 2, 2, 6, 4], [4, 1, 3, 3, 0]];
+/// How often each kind occurs, at the place of its number: input, constant, operator, multiplexer, register,
+/// register with an enable.
+pub(super) type Mixture = [usize; 6];
+
+/// The mixtures of a random table.
+pub(super) const MIXTURES: [Mixture; 5] =
+    [[3, 1, 4, 4, 2, 2], [2, 1, 6, 2, 1, 1], [1, 1, 1, 1, 3, 3], [2, 2, 2, 6, 1, 3], [4, 1, 3, 3, 0, 0]];
 
 /// The widths of a random table.
 pub(super) const WIDTHS: [&[u8]; 4] = [&[1], &[1, 2, 3], &[1, 8, 16], &[1, 2, 7, 8, 31, 32]];
@@ -18,15 +22,15 @@ pub(super) const WIDTHS: [&[u8]; 4] = [&[1], &[1, 2, 3], &[1, 8, 16], &[1, 2, 7,
 pub fn random_table(random: &mut Random, n: usize, loops: bool) -> Table {
     let mixture = random.pick(&MIXTURES);
     let widths = random.pick(&WIDTHS);
-    let kinds: Vec<usize> = (0..n).map(|_| random_kind(random, &mixture)).collect();
-    let is_wire = |i: &usize| (1..=3).contains(&kinds[*i]);
+    let kinds: Vec<Kind> = (0..n).map(|_| random_kind(random, &mixture)).collect();
+    let is_wire = |i: &usize| kinds[*i].is_wire();
     // Wires take their places in a random order, and each uses wires from before it.
     let order = random.order(n);
     let mut before: Vec<usize> = order.iter().copied().filter(|i| !is_wire(i)).collect();
     let mut table = vec![[0; 16]; n];
     for i in order {
-        let any = kinds[i] == 4 || (loops && random.percent(10));
-        let uses = [0; 3].map(|_| random_use(random, &before, n, any));
+        let any = kinds[i].is_register() || (loops && random.percent(10));
+        let uses = [0; 3].map(|_| random_use(random, i, &before, n, any));
         let w = random_width(random, widths);
         table[i] = random_record(random, kinds[i], w, uses);
         if is_wire(&i) {
@@ -36,21 +40,29 @@ pub fn random_table(random: &mut Random, n: usize, loops: bool) -> Table {
     table
 }
 
-/// One of the five kinds, as often as the mixture says.
-pub(super) fn random_kind(random: &mut Random, mixture: &[usize; 5]) -> usize {
+/// One of the six kinds, as often as the mixture says.
+pub(super) fn random_kind(random: &mut Random, mixture: &Mixture) -> Kind {
     let mut left = random.below(mixture.iter().sum());
-    let mut kind = 0;
-    while left >= mixture[kind] {
-        left -= mixture[kind];
-        kind += 1;
+    let mut number = 0;
+    while left >= mixture[number] {
+        left -= mixture[number];
+        number += 1;
     }
-    kind
+    Kind::with_number(number as u8)
 }
 
-/// A variable to use: any at all, or one of those before, rather a late one; none where there is none.
-pub(super) fn random_use(random: &mut Random, before: &[usize], n: usize, any: bool) -> Option<u16> {
+/// A variable that variable i uses in a table of n: any at all and now and then itself, or one of those
+/// before, rather a late one; none where there is none.
+pub(super) fn random_use(
+    random: &mut Random,
+    i: usize,
+    before: &[usize],
+    n: usize,
+    any: bool,
+) -> Option<u16> {
     if any {
-        return Some(random.below(n) as u16);
+        let variable = if random.percent(5) { i } else { random.below(n) };
+        return Some(variable as u16);
     }
     let late = before.len().saturating_sub(6);
     let from = if random.percent(40) { late } else { 0 };
@@ -76,18 +88,14 @@ pub fn random_number(random: &mut Random, w: u32) -> u32 {
 }
 
 /// A record of the kind; a constant where a wire has nothing to use.
-pub(super) fn random_record(
-    random: &mut Random,
-    kind: usize,
-    w: u8,
-    uses: [Option<u16>; 3],
-) -> RecordBytes {
+pub(super) fn random_record(random: &mut Random, kind: Kind, w: u8, uses: [Option<u16>; 3]) -> RecordBytes {
     let n = random_number(random, u32::from(w));
     match (kind, uses) {
-        (0, _) => random.pick(&[fixed(w, n), free(w), secret(w)]),
-        (2, [Some(a), Some(b), _]) => operator(random.pick(&Operator::BY_CODE), w, a, b),
-        (3, [Some(a), Some(b), Some(c)]) => multiplexer(w, a, b, c),
-        (4, [Some(a), ..]) => register(w, n, a),
+        (Kind::Input, _) => random.pick(&[fixed(w, n), free(w), secret(w)]),
+        (Kind::Operator, [Some(a), Some(b), _]) => operator(random.pick(&Operator::BY_CODE), w, a, b),
+        (Kind::Multiplexer, [Some(a), Some(b), Some(c)]) => multiplexer(w, a, b, c),
+        (Kind::Register, [Some(a), ..]) => register(w, n, a),
+        (Kind::Enabled, [Some(a), Some(b), _]) => enabled(w, n, a, b),
         _ => constant(w, n),
     }
 }

@@ -2,8 +2,8 @@
 //! inputs, every variable called always or open holds the same value in both runs, and one called always
 //! holds the certified number. What occurred is counted, so that a test can't pass where little does.
 
-use super::shapes::random_shape;
-use super::tables::{other_secrets, random_stimuli, random_table};
+use super::shapes::table_or_shape;
+use super::tables::{other_secrets, random_stimuli};
 use super::{Random, RecordBytes};
 use model::{read_records, Fact, Record};
 
@@ -22,8 +22,7 @@ impl Calls {
         let mut seen = Seen::default();
         for _ in 0..tables {
             let (n, length) = (1 + random.below(50), random.below(41));
-            let make = if random.percent(50) { random_table } else { random_shape };
-            let table = make(random, n, false);
+            let table = table_or_shape(random, n);
             seen.count(&TwoRuns::random(random, self, &table, length));
         }
         seen.assert_fair(tables);
@@ -78,6 +77,17 @@ impl TwoRuns {
     fn has_marked_control(&self, i: usize) -> bool {
         matches!(self.records[i], Record::Multiplexer { a, .. } if self.facts[a] == Fact::Marked)
     }
+
+    /// Whether the variable is a register with a marked enable.
+    fn has_marked_enable(&self, i: usize) -> bool {
+        matches!(self.records[i], Record::Enabled { b, .. } if self.facts[b] == Fact::Marked)
+    }
+
+    /// Whether the variable is a marked register whose enable is marked and whose data is not.
+    fn is_marked_by_its_enable(&self, i: usize) -> bool {
+        let is_marked = |variable: usize| self.facts[variable] == Fact::Marked;
+        matches!(self.records[i], Record::Enabled { a, b, .. } if is_marked(b) && !is_marked(a) && is_marked(i))
+    }
 }
 
 /// Whether a register reaches itself through uses.
@@ -101,6 +111,7 @@ fn has_feedback(records: &[Record]) -> bool {
 #[derive(Debug, Default)]
 struct Seen {
     registers: usize,
+    enables: usize,
     feedback: usize,
     multiplexers: usize,
     other_lists: usize,
@@ -111,16 +122,21 @@ struct Seen {
     open: usize,
     /// A multiplexer with a marked control is always some number.
     always_under_marked_control: usize,
+    /// A register with a marked enable is always some number.
+    always_under_marked_enable: usize,
     variables: Called,
 }
 
-/// How many wires and registers are called by each fact, and how many marked ones differ in the two runs.
+/// How many wires and registers are called by each fact, how many are marked by their enable alone, and how
+/// many marked ones differ in the two runs.
 #[derive(Debug, Default)]
 struct Called {
     always: usize,
     open: usize,
     marked: usize,
     marked_differ: usize,
+    marked_by_enable: usize,
+    marked_by_enable_differ: usize,
 }
 
 impl Seen {
@@ -129,33 +145,42 @@ impl Seen {
         let is = |i: usize, fact: Fact| runs.facts[i] == fact;
         let always = |i: usize| matches!(runs.facts[i], Fact::Always(_));
         let registers = runs.count(|i| runs.records[i].is_register());
+        let enables = runs.count(|i| matches!(runs.records[i], Record::Enabled { .. }));
         let multiplexers = runs.count(|i| matches!(runs.records[i], Record::Multiplexer { .. }));
         let feedback = has_feedback(&runs.records);
         let all_of_these = feedback && multiplexers > 0 && runs.lists_differ;
         let open = runs.count(|i| is(i, Fact::Open));
         let marked_differ = runs.count(|i| is(i, Fact::Marked) && runs.differs(i));
-        let under_marked = runs.count(|i| always(i) && runs.has_marked_control(i));
+        let under_marked_control = runs.count(|i| always(i) && runs.has_marked_control(i));
+        let under_marked_enable = runs.count(|i| always(i) && runs.has_marked_enable(i));
         self.registers += usize::from(registers > 0);
+        self.enables += usize::from(enables > 0);
         self.feedback += usize::from(feedback);
         self.multiplexers += usize::from(multiplexers > 0);
         self.other_lists += usize::from(runs.lists_differ);
         self.all_of_these += usize::from(all_of_these);
         self.marked_differ += usize::from(marked_differ > 0);
         self.open += usize::from(runs.lists_differ && open > 0);
-        self.always_under_marked_control += usize::from(under_marked > 0);
+        self.always_under_marked_control += usize::from(under_marked_control > 0);
+        self.always_under_marked_enable += usize::from(under_marked_enable > 0);
         self.variables.always += runs.count(always);
         self.variables.open += open;
         self.variables.marked += runs.count(|i| is(i, Fact::Marked));
         self.variables.marked_differ += marked_differ;
+        self.variables.marked_by_enable += runs.count(|i| runs.is_marked_by_its_enable(i));
+        self.variables.marked_by_enable_differ +=
+            runs.count(|i| runs.is_marked_by_its_enable(i) && runs.differs(i));
     }
 
     /// Asserts that each of these occurred in its share of the tables or variables, in percent.
     fn assert_fair(&self, tables: usize) {
         println!("of {tables}: {self:?}");
-        let Called { always, open, marked, marked_differ } = self.variables;
+        let Called { always, open, marked, marked_differ, marked_by_enable, marked_by_enable_differ } =
+            self.variables;
         let variables = always + open + marked;
         let shares = [
             (self.registers, tables, 50),
+            (self.enables, tables, 50),
             (self.feedback, tables, 40),
             (self.multiplexers, tables, 50),
             (self.other_lists, tables, 30),
@@ -163,10 +188,12 @@ impl Seen {
             (self.marked_differ, tables, 20),
             (self.open, tables, 20),
             (self.always_under_marked_control, tables, 2),
+            (self.always_under_marked_enable, tables, 2),
             (always, variables, 10),
             (open, variables, 10),
             (marked, variables, 10),
             (marked_differ, variables, 3),
+            (marked_by_enable_differ, marked_by_enable, 1),
         ];
         for (i, (seen, all, percent)) in shares.into_iter().enumerate() {
             assert!(tables < 500 || seen * 100 >= all * percent, "share {i}: {self:?}");

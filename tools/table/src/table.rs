@@ -13,13 +13,14 @@ const MOST_RECORDS: usize = 4096;
 const OPERATORS: [&str; 9] = ["add", "sub", "and", "or", "xor", "equal", "less", "shl", "shr"];
 
 /// How a record of each other kind is written, its word first.
-const FORMS: [&str; 6] = [
+const FORMS: [&str; 7] = [
     "fixed WIDTH VALUE",
     "free WIDTH",
     "secret WIDTH",
     "constant WIDTH VALUE",
     "mux WIDTH A B C",
     "register WIDTH POWER_ON A",
+    "enabled WIDTH POWER_ON A B",
 ];
 
 /// A table read from its text: for each record its name, if it has one, and the line that it stands on.
@@ -123,6 +124,10 @@ fn read_record(
         ["register", w, n, a] => {
             Ok(Record::Register { width: width(w)?, a: variable(a)?, power_on: fitting(n, w)? })
         }
+        ["enabled", w, n, a, b] => {
+            let (a, b) = (variable(a)?, variable(b)?);
+            Ok(Record::Enabled { width: width(w)?, a, b, power_on: fitting(n, w)? })
+        }
         [word, ref operands @ ..] => match (operator(word), operands) {
             (Some(operator), &[w, a, b]) => {
                 Ok(Record::Operator { width: width(w)?, operator, a: variable(a)?, b: variable(b)? })
@@ -191,6 +196,7 @@ fn record_bytes(record: &Record) -> [u8; 16] {
         Record::Operator { operator, .. } => (2, code(operator) as u8, 0),
         Record::Multiplexer { .. } => (3, 0, 0),
         Record::Register { power_on, .. } => (4, 0, power_on),
+        Record::Enabled { power_on, .. } => (5, 0, power_on),
     };
     let mut bytes = [0; 16];
     bytes[..3].copy_from_slice(&[kind, record.width() as u8, choice]);
@@ -219,6 +225,7 @@ fn record_text(record: &Record) -> String {
         Record::Operator { operator, a, b, .. } => format!("{} {w} {a} {b}", OPERATORS[code(operator)]),
         Record::Multiplexer { a, b, c, .. } => format!("mux {w} {a} {b} {c}"),
         Record::Register { a, power_on, .. } => format!("register {w} {power_on} {a}"),
+        Record::Enabled { a, b, power_on, .. } => format!("enabled {w} {power_on} {a} {b}"),
     }
 }
 
@@ -228,7 +235,7 @@ fn refused(Refusal { ground, place }: Refusal) -> Problem {
         1 => Place::File.problem("a table has at most 65536 bytes"),
         2 => Place::File.problem("the length is not a multiple of 16"),
         _ => Place::Record(place).problem(match ground {
-            5 => "its kind, byte 0, is above 4",
+            5 => "its kind, byte 0, is above 5",
             6 => "its width, byte 1, is not one of 1 to 32",
             7 => "byte 2 has no such value for its kind",
             8 => "byte 3, 10, 11 or an unused variable or value is not 0",

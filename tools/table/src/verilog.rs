@@ -65,7 +65,7 @@ impl Names {
             Record::Input { kind: InputKind::Fixed(n), .. } => ("input wire", format!(" // fixed at {n}")),
             Record::Input { kind: InputKind::Free, .. } => ("input wire", " // free".to_string()),
             Record::Input { kind: InputKind::Secret, .. } => ("input wire", " // secret".to_string()),
-            Record::Register { .. } => ("output reg", String::new()),
+            Record::Register { .. } | Record::Enabled { .. } => ("output reg", String::new()),
             _ => ("output wire", String::new()),
         };
         let range = match record.width() {
@@ -88,12 +88,21 @@ impl Names {
             Record::Multiplexer { a, b, c, .. } => {
                 format!("    assign {target} = {} != 0 ? {} : {};\n", name(a), name(b), name(c))
             }
-            Record::Register { width, a, power_on } => format!(
-                "    initial {target} = {width}'d{power_on};\n    always @(posedge {}) {target} <= {};\n",
-                self.clock,
-                name(a)
-            ),
+            Record::Register { width, a, power_on } => {
+                let step = format!("{target} <= {}", name(a));
+                self.register(target, width, power_on, &step)
+            }
+            Record::Enabled { width, a, b, power_on } => {
+                let step = format!("if ({} != 0) {target} <= {}", name(b), name(a));
+                self.register(target, width, power_on, &step)
+            }
         }
+    }
+
+    /// What drives a register: its power-on value, and the step that is made at the clock's rising edge.
+    fn register(&self, target: &str, width: u32, power_on: u32, step: &str) -> String {
+        let initial = format!("    initial {target} = {width}'d{power_on};\n");
+        initial + &format!("    always @(posedge {}) {step};\n", self.clock)
     }
 }
 

@@ -41,7 +41,7 @@ fn kinds_and_their_forms() {
     assert_eq!(
         table_error("a = nand 8 key key"),
         "there is no kind `nand`, but add, sub, and, or, xor, equal, less, shl, shr and \
-         fixed, free, secret, constant, mux, register"
+         fixed, free, secret, constant, mux, register, enabled"
     );
     let forms = [
         ("fixed 8", "fixed WIDTH VALUE"),
@@ -50,6 +50,9 @@ fn kinds_and_their_forms() {
         ("constant 8", "constant WIDTH VALUE"),
         ("mux 8 key key", "mux WIDTH A B C"),
         ("register 8 key", "register WIDTH POWER_ON A"),
+        ("register 8 0 key key", "register WIDTH POWER_ON A"),
+        ("enabled 8 0 key", "enabled WIDTH POWER_ON A B"),
+        ("enabled 8 0 key key key", "enabled WIDTH POWER_ON A B"),
         ("add 8 key", "add WIDTH A B"),
         ("shr 8 key key key", "shr WIDTH A B"),
     ];
@@ -69,8 +72,13 @@ fn widths_values_and_variables() {
     assert_eq!(table_error("a = constant 8 256"), "256 does not fit the width 8");
     assert_eq!(table_error("a = fixed 8 0x100"), "0x100 does not fit the width 8");
     assert_eq!(table_error("a = register 1 2 a"), "2 does not fit the width 1");
+    assert_eq!(table_error("a = enabled 0 0 a a"), "the width 0 is not one of 1 to 32");
+    assert_eq!(table_error("a = enabled 4 16 a key"), "16 does not fit the width 4");
+    assert_eq!(table_error("a = enabled 4 a a key"), "`a` is no number");
     assert_eq!(table_error("a = constant 32 4294967296"), "4294967296 is above 2^32 - 1");
     assert_eq!(table_error("a = add 8 key lock"), "no variable has the name `lock`");
+    assert_eq!(table_error("a = enabled 8 0 lock key"), "no variable has the name `lock`");
+    assert_eq!(table_error("a = enabled 8 0 key 3"), "there is no variable 3: the table has 3");
     assert_eq!(table_error("a = add 8 key 3"), "there is no variable 3: the table has 3");
     assert_eq!(table_error("a = add 8 key 0x1"), "no variable has the name `0x1`");
     assert_eq!(

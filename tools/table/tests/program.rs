@@ -87,6 +87,11 @@ fn damaged_bytes() {
         let said = format!("{}: record 3: its width, byte 1, is not one of 1 to 32", file.display());
         assert_says(&["dis".as_ref(), file.as_os_str()], 1, &said);
     });
+    bytes[3 * 16] = 6;
+    with_file("kind", &bytes, |file| {
+        let said = format!("{}: record 3: its kind, byte 0, is above 5", file.display());
+        assert_says(&["dis".as_ref(), file.as_os_str()], 1, &said);
+    });
     with_file("length", &bytes[1..], |file| {
         let said = format!("{}: the length is not a multiple of 16", file.display());
         assert_says(&["dis".as_ref(), file.as_os_str()], 1, &said);

@@ -8,7 +8,7 @@ use common::samples::samples;
 use common::shapes::random_pair;
 use common::tables::damage;
 use common::{
-    bench_longer, cases, constant, fixed, free, multiplexer, operator, register, secret, Random,
+    bench_longer, cases, constant, enabled, fixed, free, multiplexer, operator, register, secret, Random,
     MOST_RECORDS, MOST_STIMULI, TICK,
 };
 use examples::examples;
@@ -63,13 +63,14 @@ fn named(random: &mut Random, bytes: &[u8]) -> String {
 #[test]
 fn every_kind() {
     let inputs = "0 = fixed 4 9\n1 = free 32\n2 = secret 0x10\n";
-    let wires = "n = constant 8 0xFf\nm = mux 8 0 1 2\nr = register 3 5 n\n";
+    let others = "n = constant 8 0xFf\nm = mux 8 0 1 2\nr = register 3 5 n\ne = enabled 3 6 n m\n";
     let words = ["add", "sub", "and", "or", "xor", "equal", "less", "shl", "shr"];
     let operators: String = words.map(|word| format!("{word} = {word} 7 1 2\n")).concat();
-    let records =
-        [fixed(4, 9), free(32), secret(16), constant(8, 255), multiplexer(8, 0, 1, 2), register(3, 5, 3)];
-    let records = [&records[..], &Operator::BY_CODE.map(|code| operator(code, 7, 1, 2))].concat();
-    assert_eq!(asm(&[inputs, wires, &operators].concat()), records.as_flattened());
+    let text = [inputs, others, &operators].concat();
+    let inputs = [fixed(4, 9), free(32), secret(16)];
+    let others = [constant(8, 255), multiplexer(8, 0, 1, 2), register(3, 5, 3), enabled(3, 6, 3, 4)];
+    let operators = Operator::BY_CODE.map(|code| operator(code, 7, 1, 2));
+    assert_eq!(asm(&text), [&inputs[..], &others, &operators].concat().as_flattened());
 }
 
 #[test]

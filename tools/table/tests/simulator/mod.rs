@@ -16,12 +16,19 @@ struct Driver {
     words: Vec<String>,
 }
 
+/// What drives a register at a rising edge of the clock: behind an `if`, only where the variable that is named
+/// there is not 0.
+struct Register {
+    enable: Option<String>,
+    driver: Driver,
+}
+
 /// A module, in the state after what has been done with it.
 pub struct Module {
     ports: Vec<String>,
     variables: HashMap<String, Variable>,
     wires: Vec<Driver>,
-    registers: Vec<Driver>,
+    registers: Vec<Register>,
 }
 
 impl Module {
@@ -51,7 +58,13 @@ impl Module {
             }
             ["input" | "output", _, name] => self.declare(name, 1),
             ["assign", _, "=", ..] => self.wires.push(driver(1, 3)),
-            ["always", "@(posedge", _, _, "<=", _] => self.registers.push(driver(3, 5)),
+            ["always", "@(posedge", _, _, "<=", _] => {
+                self.registers.push(Register { enable: None, driver: driver(3, 5) })
+            }
+            ["always", "@(posedge", _, "if", enable, "!=", "0)", _, "<=", _] => {
+                let enable = Some(plain(enable.strip_prefix('(').unwrap()));
+                self.registers.push(Register { enable, driver: driver(7, 9) })
+            }
             ["initial", name, "=", n] => self.variables.get_mut(name).unwrap().value = literal(n).1,
             ["module", .., "("] | [")"] | ["endmodule"] => (),
             _ => panic!("the simulator does not know {text:?}"),
@@ -76,13 +89,21 @@ impl Module {
         self.settle();
     }
 
-    /// A rising edge of the clock: all registers take their values from before it, and the wires follow.
+    /// A rising edge of the clock: all registers that are driven take their values from before it, and the
+    /// wires follow.
     pub fn tick(&mut self) {
-        let next: Vec<u64> = self.registers.iter().map(|driver| self.driven(driver)).collect();
-        for (driver, value) in self.registers.iter().zip(next) {
-            self.variables.get_mut(&driver.target).unwrap().value = value;
+        let next: Vec<Option<u64>> = self.registers.iter().map(|register| self.next(register)).collect();
+        for (register, next) in self.registers.iter().zip(next) {
+            let target = self.variables.get_mut(&register.driver.target).unwrap();
+            target.value = next.unwrap_or(target.value);
         }
         self.settle();
+    }
+
+    /// The value that drives a register at a rising edge, if one does.
+    fn next(&self, Register { enable, driver }: &Register) -> Option<u64> {
+        let driven = enable.as_ref().is_none_or(|enable| self.operand(enable).1 != 0);
+        driven.then(|| self.driven(driver))
     }
 
     /// Assigns every wire until none changes.

@@ -22,6 +22,9 @@ enum-told-3 c = search needs
 enum-known-r-2 : tie.Need-enum-known-r-2
 enum-known-r-2 c = search needs
 
+enum-known-r-3 : tie.Need-enum-known-r-3
+enum-known-r-3 c = search needs
+
 returns : tie.Need-returns
 returns c = search needs
 
@@ -37,6 +40,9 @@ returns-4 c = search needs
 returns-5 : tie.Need-returns-5
 returns-5 c = rw (c .before .r2 .given .1)
 
+returns-6 : tie.Need-returns-6
+returns-6 c = rw (c .before .r3 .given .1)
+
 pub initial-fact-spec : {M : Type 1} → statement M
 initial-fact-spec =
     tie.close
@@ -47,8 +53,10 @@ initial-fact-spec =
     enum-told-2
     enum-told-3
     enum-known-r-2
+    enum-known-r-3
     returns
     returns-2
     returns-3
     returns-4
-    returns-5)
+    returns-5
+    returns-6)

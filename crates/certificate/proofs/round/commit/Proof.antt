@@ -7,7 +7,7 @@ use borrow.Author.Needs.{needs}
 use lib.ListN.{getD}
 use Rattle.buffer.specs.Store.{Moves}
 use Rattle.circuit.specs.Circuit.{circuit}
-use Rattle.circuit.proofs.Operands as operands
+use Rattle.circuit.proofs.Operands.{initial-here}
 use Rattle.fact.specs.Fact.{factByte, factOf, factAt}
 use Rattle.fact.specs.Cells.{facts}
 use Rattle.fact.specs.Rule.{rule}
@@ -43,38 +43,22 @@ shared-slice-read-wide c = omega arith
 wide-requires : tie.Need-wide-requires Inv-loop μ-loop
 wide-requires c κs = search needs
 
-value-at-requires : tie.Need-value-at-requires Inv-loop μ-loop
-value-at-requires c κs =
-    let r = c .before .before .before .before .before .before .before .pre .0 in
-    omega (
-      arith,
-      register-below r (c .before .before .loop-test .taken) (c .wide .ensures .0),
-      r .wired .store .table .long,
-    )
+add-write-staged : tie.Need-add-write-staged Inv-loop μ-loop
+add-write-staged c = omega arith
 
-add-staged-fact : tie.Need-add-staged-fact Inv-loop μ-loop
-add-staged-fact c = omega arith
+mul-write-staged : tie.Need-mul-write-staged Inv-loop μ-loop
+mul-write-staged c = omega arith
 
-mul-staged-fact : tie.Need-mul-staged-fact Inv-loop μ-loop
-mul-staged-fact c = omega arith
+shared-slice-read-write-staged : tie.Need-shared-slice-read-write-staged Inv-loop μ-loop
+shared-slice-read-write-staged c = omega arith
 
-shared-slice-read-staged-fact : tie.Need-shared-slice-read-staged-fact Inv-loop μ-loop
-shared-slice-read-staged-fact c = omega arith
-
-staged-fact-requires : tie.Need-staged-fact-requires Inv-loop μ-loop
-staged-fact-requires c κs = search needs
-
-store-requires : tie.Need-store-requires Inv-loop μ-loop
-store-requires c κs =
-    let l = c .before .before .before .before .before .before .before in
+write-staged-requires : tie.Need-write-staged-requires Inv-loop μ-loop
+write-staged-requires c κs =
+    let l = c .before .before .before .before .before in
     let r = l .before .before .before .before .pre .0 in
-    omega (
-      arith,
-      register-below r (c .before .before .before .before .before .before .loop-test .taken)
-          (c .before .before .before .before .wide .ensures .0),
-      l .loop .inv .1 .kept .long,
-      r .wired .store .lent,
-    )
+    let below =
+    register-below r (c .before .before .before .before .loop-test .taken) (c .before .before .wide .ensures .0) in
+    (omega (arith, r .wired .store .table .long), omega (arith, l .loop .inv .1 .kept .long, r .wired .store .lent))
 
 add-j : tie.Need-add-j Inv-loop μ-loop
 add-j c = omega arith
@@ -84,28 +68,25 @@ loop-less c = omega arith
 
 loop-again : tie.Need-loop-again Inv-loop μ-loop
 loop-again c =
-    let l = c .before .before .before .before .before .before .before .before .before .before in
+    let l = c .before .before .before .before .before .before .before .before in
     let x = l .before .before .before .before .args in
     let (r, staged) = l .before .before .before .before .pre in
-    let h = c .before .before .before .before .before .before .before .before .before .loop-test .taken in
-    let w = c .before .before .before .before .before .before .before .wide in
+    let h = c .before .before .before .before .before .before .before .loop-test .taken in
+    let w = c .before .before .before .before .before .wide in
     let table = r .wired .store .table in
     let below = register-below r h (w .ensures .0) in
     let C = circuit (x .t .now) (x .n) in
     let s = factAt (x .cells .now) in
-    let byte = getD (x .scratch .now) (x .n + l .loop .j) 0 in
     let place : x .n + l .loop .j * 1 ≡ x .n + l .loop .j = omega arith in
-    let fact = c .before .before .before .before .staged-fact in
-    let is : fact .result ≡ rule C s (w .result) =
-    register-byte C s (w .result)
-    (operands.register-here (x .t .now) (x .n) (w .result) below (table .valid)
-    (register-evaluable r h (w .ensures .0) {cells′ = x .cells .now} refl .is) .is)
+    let is-register = register-evaluable r h (w .ensures .0) {cells′ = x .cells .now} refl .is in
+    let is : factOf (getD (x .scratch .now) (x .n + l .loop .j) 0) _ ≡ rule C s (w .result) =
+    register-byte C s (w .result) is-register (initial-here (x .t .now) (x .n) (w .result) below is-register)
     (ap (λ (i : ℕ). getD (x .scratch .now) i 0) (sym place) ∙ staged .cell (l .loop .j) h .reads
     ∙ ap (λ (u : ℕ). factByte (rule C s u)) (sym (register-at r h (w .ensures .0))))
-    (fact .ensures ∙ ap (factOf byte) (c .before .before .before .before .before .before .value-at .ensures)) in (
+    refl in (
       omega arith,
       one-committed facts-laws (lawful table) r (l .loop .inv .1) h (w .ensures .0) (gives-fact table below is) refl
-          (c .before .before .store .ensures),
+          (c .before .before .write-staged .ensures),
     )
 
 same-length : tie.Need-same-length Inv-loop μ-loop
@@ -128,12 +109,10 @@ commit-spec =
     mul-wide
     shared-slice-read-wide
     wide-requires
-    value-at-requires
-    add-staged-fact
-    mul-staged-fact
-    shared-slice-read-staged-fact
-    staged-fact-requires
-    store-requires
+    add-write-staged
+    mul-write-staged
+    shared-slice-read-write-staged
+    write-staged-requires
     add-j
     loop-less
     loop-again

@@ -2,8 +2,8 @@
 -- Assumes nothing.
 use mathlib.Core.Path.{sym, ap, _∙_}
 use Rattle.circuit.specs.declared.record.Record.the-variants.{Input}
-use Rattle.circuit.proofs.Bytes.{past4}
-use Rattle.circuit.proofs.Decoding.{decode-input, decode-constant, decode-operator, decode-multiplexer, decode-register}
+use Rattle.circuit.proofs.Bytes.{past5}
+use Rattle.circuit.proofs.Decoding.{decode-input, decode-constant, decode-operator, decode-multiplexer, decode-register, decode-enabled}
 use borrow.Author.Needs.{needs}
 use Rattle.circuit.proofs.record.decode.Statement.{statement}
 use Rattle.circuit.proofs.record.decode.Tie as tie
@@ -30,10 +30,13 @@ returns-4 : tie.Need-returns-4
 returns-4 c = sym (decode-multiplexer (c .before .args .f) (c .match .keys4))
 
 returns-5 : tie.Need-returns-5
-returns-5 c =
+returns-5 c = sym (decode-register (c .before .args .f) (c .match .keys5))
+
+returns-6 : tie.Need-returns-6
+returns-6 c =
     let f = c .before .args .f in
     let r = c .match .rest in
-    sym (decode-register f (past4 (f .kind) (r .0 .0 .0 .1) (r .0 .0 .1) (r .0 .1) (r .1)))
+    sym (decode-enabled f (past5 (f .kind) (r .0 .0 .0 .0 .1) (r .0 .0 .0 .1) (r .0 .0 .1) (r .0 .1) (r .1)))
 
 pub decode-spec : {M : Type 1} → statement M
 decode-spec =
@@ -45,4 +48,5 @@ decode-spec =
     returns-2
     returns-3
     returns-4
-    returns-5)
+    returns-5
+    returns-6)

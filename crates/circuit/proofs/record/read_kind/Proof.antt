@@ -5,7 +5,7 @@ use mathlib.Core.List.{map}
 use lib.ListN.{List·getD-eq-default}
 use Rattle.circuit.specs.declared.record.ReadKind.the-variants.{Is, None}
 use Rattle.circuit.specs.Reading.{kinds}
-use Rattle.circuit.proofs.Bytes.{past5}
+use Rattle.circuit.proofs.Bytes.{past6}
 use Rattle.circuit.proofs.record.read_kind.Statement.{statement}
 use Rattle.circuit.proofs.record.read_kind.Tie as tie
 
@@ -25,10 +25,14 @@ returns-5 : tie.Need-returns-5
 returns-5 c = rw (c .match .keys5)
 
 returns-6 : tie.Need-returns-6
-returns-6 c =
+returns-6 c = rw (c .match .keys6)
+
+returns-7 : tie.Need-returns-7
+returns-7 c =
     let r = c .match .rest in
     sym (List·getD-eq-default (map Is kinds) None
-    (past5 (c .before .args .kind) (r .0 .0 .0 .0 .1) (r .0 .0 .0 .1) (r .0 .0 .1) (r .0 .1) (r .1)))
+    (past6 (c .before .args .kind)
+    (r .0 .0 .0 .0 .0 .1) (r .0 .0 .0 .0 .1) (r .0 .0 .0 .1) (r .0 .0 .1) (r .0 .1) (r .1)))
 
 pub read-kind-spec : {M : Type 1} → statement M
-read-kind-spec = tie.close (tie.spec returns returns-2 returns-3 returns-4 returns-5 returns-6)
+read-kind-spec = tie.close (tie.spec returns returns-2 returns-3 returns-4 returns-5 returns-6 returns-7)

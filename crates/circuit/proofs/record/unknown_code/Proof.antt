@@ -54,6 +54,9 @@ enum-told-8 c = search needs
 enum-told-9 : tie.Need-enum-told-9
 enum-told-9 c = search needs
 
+enum-told-10 : tie.Need-enum-told-10
+enum-told-10 c = search needs
+
 returns-3 : tie.Need-returns-3
 returns-3 c =
     rw (c .before .before .before .enum-told .given .1)
@@ -77,6 +80,9 @@ returns-6 c = rw (c .enum-told8 .given .1)
 returns-7 : tie.Need-returns-7
 returns-7 c = rw (c .enum-told9 .given .1)
 
+returns-8 : tie.Need-returns-8
+returns-8 c = rw (c .enum-told10 .given .1)
+
 pub unknown-code-spec : {M : Type 1} → statement M
 unknown-code-spec =
     tie.close
@@ -94,8 +100,10 @@ unknown-code-spec =
     enum-told-7
     enum-told-8
     enum-told-9
+    enum-told-10
     returns-3
     returns-4
     returns-5
     returns-6
-    returns-7)
+    returns-7
+    returns-8)

@@ -50,6 +50,12 @@ enum-told-7 c = search needs
 all-zero-requires-7 : tie.Need-all-zero-requires-7
 all-zero-requires-7 c κs = search needs
 
+enum-told-8 : tie.Need-enum-told-8
+enum-told-8 c = search needs
+
+all-zero-requires-8 : tie.Need-all-zero-requires-8
+all-zero-requires-8 c κs = search needs
+
 returns : tie.Need-returns
 unfolding every
 returns c = rw (c .before .before .before .before .r .given .1, c .before .enum-told .given .1) (c .all-zero .ensures)
@@ -80,6 +86,10 @@ returns-7 : tie.Need-returns-7
 unfolding every
 returns-7 c = rw (c .before .enum-told7 .given .1) (c .all-zero7 .ensures)
 
+returns-8 : tie.Need-returns-8
+unfolding every
+returns-8 c = rw (c .before .enum-told8 .given .1) (c .all-zero8 .ensures)
+
 pub unused-zero-spec : {M : Type 1} → statement M
 unused-zero-spec =
     tie.close
@@ -99,10 +109,13 @@ unused-zero-spec =
     all-zero-requires-6
     enum-told-7
     all-zero-requires-7
+    enum-told-8
+    all-zero-requires-8
     returns
     returns-2
     returns-3
     returns-4
     returns-5
     returns-6
-    returns-7)
+    returns-7
+    returns-8)

@@ -31,6 +31,12 @@ enum-known-r-3 c = search needs
 all-below-requires-3 : tie.Need-all-below-requires-3
 all-below-requires-3 c κs = search needs
 
+enum-known-r-4 : tie.Need-enum-known-r-4
+enum-known-r-4 c = search needs
+
+all-below-requires-4 : tie.Need-all-below-requires-4
+all-below-requires-4 c κs = search needs
+
 returns : tie.Need-returns
 unfolding every
 returns c = rw (c .enum-told .given .1)
@@ -51,6 +57,10 @@ returns-5 : tie.Need-returns-5
 unfolding every
 returns-5 c = rw (c .before .before .r3 .given .1) (c .all-below3 .ensures ∙ rw (and-twice, and-twice))
 
+returns-6 : tie.Need-returns-6
+unfolding every
+returns-6 c = rw (c .before .before .r4 .given .1) (c .all-below4 .ensures ∙ rw and-twice)
+
 pub uses-below-spec : {M : Type 1} → statement M
 uses-below-spec =
     tie.close
@@ -63,8 +73,11 @@ uses-below-spec =
     all-below-requires-2
     enum-known-r-3
     all-below-requires-3
+    enum-known-r-4
+    all-below-requires-4
     returns
     returns-2
     returns-3
     returns-4
-    returns-5)
+    returns-5
+    returns-6)

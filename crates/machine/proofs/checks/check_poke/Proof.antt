@@ -37,6 +37,9 @@ enum-told-3 c = search needs
 enum-told-4 : tie.Need-enum-told-4
 enum-told-4 c = search needs
 
+enum-told-5 : tie.Need-enum-told-5
+enum-told-5 c = search needs
+
 returns-2 : tie.Need-returns-2
 returns-2 c =
     let x = c .before .before .before .before .before .before .before .args in
@@ -77,6 +80,14 @@ returns-6 c =
     (r .ensures) _ (c .enum-told4 .given .1)
     refl
 
+returns-7 : tie.Need-returns-7
+returns-7 c =
+    let x = c .before .before .before .before .before .args in
+    let r = c .before .before .record-at in
+    poke-other (x .t .now) (x .n) (x .v) (x .x) (x .i) (c .before .before .before .if1 .left) (r .result)
+    (r .ensures) _ (c .enum-told5 .given .1)
+    refl
+
 pub check-poke-spec : {M : Type 1} → statement M
 check-poke-spec =
     tie.close
@@ -89,8 +100,10 @@ check-poke-spec =
     enum-told-2
     enum-told-3
     enum-told-4
+    enum-told-5
     returns-2
     returns-3
     returns-4
     returns-5
-    returns-6)
+    returns-6
+    returns-7)

@@ -31,7 +31,7 @@ poke-requires c κs =
     let poked =
     poke-passed C _ _ 0
     (subst (λ (y : Stimulus). checkStimulus C (Read y) 0 ≡ Passed)
-    (c .before .before .before .before .stimulus .given .1) (start .pre .1)) in (
+    (c .before .before .before .before .stimulus .given .1) (start .pre .1 .1)) in (
       start .pre .0 .wired,
       omega (arith, poked .below, circuit-length (x .t .now) (x .n), c .wide .ensures .0),
     )

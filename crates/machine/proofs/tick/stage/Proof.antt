@@ -17,16 +17,16 @@ use Rattle.machine.proofs.tick.stage.Statement.{statement}
 use Rattle.machine.proofs.tick.stage.Tie as tie
 
 abbrev Inv-loop : tie.InvT-loop
-Inv-loop t n scratch₀ wires registers values j₀ scratch j =
+Inv-loop t n scratch₀ wires registers values enables j₀ scratch j =
     (j ≤ registers)
     × Staged numbers halves room t n wires registers values (n + n) (n * room) (staged (circuit t n) (state values))
     scratch₀ scratch j
 
 abbrev μ-loop : tie.MeasureT-loop
-μ-loop t n scratch₀ wires registers values j₀ scratch j = registers - j
+μ-loop t n scratch₀ wires registers values enables j₀ scratch j = registers - j
 
 loop-holds : tie.Need-loop-holds Inv-loop μ-loop
-loop-holds c = (search needs, none-staged (c .before .before .before .pre))
+loop-holds c = (search needs, none-staged (c .before .before .before .pre .0))
 
 add-wide : tie.Need-add-wide Inv-loop μ-loop
 add-wide c = omega arith
@@ -43,9 +43,11 @@ wide-requires : tie.Need-wide-requires Inv-loop μ-loop
 wide-requires c κs = search needs
 
 register-value-requires : tie.Need-register-value-requires Inv-loop μ-loop
-register-value-requires c κs =
-    register-evaluable (c .before .before .before .loop .inv .1 .ready) (c .before .before .loop-test .taken)
-    (c .wide .ensures .0) refl
+register-value-requires c κs = (
+  register-evaluable (c .before .before .before .loop .inv .1 .ready) (c .before .before .loop-test .taken)
+      (c .wide .ensures .0) refl,
+  c .before .before .before .before .before .before .before .pre .1,
+)
 
 add-store : tie.Need-add-store Inv-loop μ-loop
 add-store c = omega arith

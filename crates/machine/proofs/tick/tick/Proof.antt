@@ -14,13 +14,13 @@ stage-requires c κs = search needs
 commit-requires : tie.Need-commit-requires
 commit-requires c κs =
     let staged = c .before .before .before .before .stage .ensures in
-    let p = c .before .before .before .before .before .before .before .before .before .before .pre in
+    let p = c .before .before .before .before .before .before .before .before .before .before .pre .0 in
     (ready-kept p (omega arith) (staged .0), staged .1)
 
 settle-requires : tie.Need-settle-requires
 settle-requires c κs =
     let s = c .before .before .before .before .before .before .before .before .before in
-    let p = s .before .before .before .before .before .before .pre in
+    let p = s .before .before .before .before .before .before .pre .0 in
     wired-long (ready-kept p (omega arith) (s .stage .ensures .0) .wired)
     (c .before .before .before .before .commit .ensures .kept .long)
 

@@ -1,0 +1,74 @@
+//! The calls of an archive, loaded from the shared object that `benchmarks/run` makes of it. So this archive
+//! and an earlier one, whose calls have the same names, are called in one run and in the same way.
+
+use crate::{Bench, Certify};
+use model::Refusal;
+use std::ffi::{c_char, c_int, c_void, CStr, CString};
+use std::mem::transmute;
+
+extern "C" {
+    fn dlopen(path: *const c_char, flags: c_int) -> *mut c_void;
+    fn dlsym(library: *mut c_void, name: *const c_char) -> *mut c_void;
+}
+
+/// Every name that the library uses is found at once.
+const RTLD_NOW: c_int = 2;
+
+type CertifyCall = unsafe extern "C" fn(*const u8, usize, *mut u8, usize, *mut u16, usize) -> u64;
+type BenchCall =
+    unsafe extern "C" fn(*const u8, usize, *const u8, usize, *mut u32, usize, *mut u16, usize) -> u64;
+
+/// An archive's calls on tables. They stay loaded.
+pub struct Archive {
+    pub certify: &'static Certify,
+    pub bench: &'static Bench,
+}
+
+impl Archive {
+    /// The archive of which this shared object is made.
+    pub fn load(path: &str) -> Archive {
+        let name = CString::new(path).expect("a path has no byte 0");
+        // SAFETY: the path is a C string, and an archive has no code that runs when it is loaded.
+        let library = unsafe { dlopen(name.as_ptr(), RTLD_NOW) };
+        assert!(!library.is_null(), "{path} cannot be loaded");
+        let found = |name: &CStr| {
+            // SAFETY: the library is loaded, and the name is a C string.
+            let call = unsafe { dlsym(library, name.as_ptr()) };
+            assert!(!call.is_null(), "{path} has no {name:?}");
+            call
+        };
+        // SAFETY: include/lambdac.h declares the two calls with these types.
+        unsafe {
+            Archive {
+                certify: certify(transmute::<*mut c_void, CertifyCall>(found(c"lambdac_certify"))),
+                bench: bench(transmute::<*mut c_void, BenchCall>(found(c"lambdac_bench"))),
+            }
+        }
+    }
+}
+
+fn certify(call: CertifyCall) -> &'static Certify {
+    Box::leak(Box::new(move |table: &[u8], certificate: &mut [u8], scratch: &mut [u16]| {
+        let (t, c, s) = (table.as_ptr(), certificate.as_mut_ptr(), scratch.as_mut_ptr());
+        // SAFETY: each pointer and length are those of one slice, and borrowed slices do not overlap.
+        unpacked(unsafe { call(t, table.len(), c, certificate.len(), s, scratch.len()) })
+    }))
+}
+
+fn bench(call: BenchCall) -> &'static Bench {
+    Box::leak(Box::new(move |table: &[u8], list: &[u8], values: &mut [u32], scratch: &mut [u16]| {
+        let (t, l, v, s) = (table.as_ptr(), list.as_ptr(), values.as_mut_ptr(), scratch.as_mut_ptr());
+        // SAFETY: as above; the two that are only read may overlap.
+        let answer = unsafe { call(t, table.len(), l, list.len(), v, values.len(), s, scratch.len()) };
+        unpacked(answer).map(|_| ())
+    }))
+}
+
+/// The number of an accepted call; or the refusal, which is packed as ground * 2^32 + place.
+fn unpacked(answer: u64) -> Result<u32, Refusal> {
+    let (ground, low) = ((answer >> 32) as u32, answer as u32);
+    match ground {
+        0 => Ok(low),
+        _ => Err(Refusal { ground, place: low as usize }),
+    }
+}

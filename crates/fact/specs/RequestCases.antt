@@ -1,0 +1,172 @@
+-- Cases of the requests, from bytes, beside document 01's A to J. Request S-2: registers with an enable.
+-- Assumes nothing.
+use mathlib.Core.Bool.{true, false}
+use mathlib.Core.List.{List, [], _∷_}
+use Prim.Native.Nat.{ℕ}
+use Rattle.fact.specs.declared.Fact.the-variants.{Always, Open, Marked}
+use Rattle.fact.specs.Cases.{Case}
+
+-- an enable (0), and four registers (5 to 8) of width 8 that have it, each at power-on 5: their data are a free input
+-- (1), a secret one (2), the constants 261, which is 5 at their width (3), and 7 (4)
+abbrev enabledBy : List ℕ → List (List ℕ)
+enabledBy enable =
+    enable
+    ∷ (0 ∷ 8 ∷ 1 ∷ 0 ∷ 0 ∷ 0 ∷ 0 ∷ 0 ∷ 0 ∷ 0 ∷ 0 ∷ 0 ∷ 0 ∷ 0 ∷ 0 ∷ 0 ∷ [])
+    ∷ (0 ∷ 8 ∷ 2 ∷ 0 ∷ 0 ∷ 0 ∷ 0 ∷ 0 ∷ 0 ∷ 0 ∷ 0 ∷ 0 ∷ 0 ∷ 0 ∷ 0 ∷ 0 ∷ [])
+    ∷ (1 ∷ 16 ∷ 0 ∷ 0 ∷ 0 ∷ 0 ∷ 0 ∷ 0 ∷ 0 ∷ 0 ∷ 0 ∷ 0 ∷ 5 ∷ 1 ∷ 0 ∷ 0 ∷ [])
+    ∷ (1 ∷ 8 ∷ 0 ∷ 0 ∷ 0 ∷ 0 ∷ 0 ∷ 0 ∷ 0 ∷ 0 ∷ 0 ∷ 0 ∷ 7 ∷ 0 ∷ 0 ∷ 0 ∷ [])
+    ∷ (5 ∷ 8 ∷ 0 ∷ 0 ∷ 1 ∷ 0 ∷ 0 ∷ 0 ∷ 0 ∷ 0 ∷ 0 ∷ 0 ∷ 5 ∷ 0 ∷ 0 ∷ 0 ∷ [])
+    ∷ (5 ∷ 8 ∷ 0 ∷ 0 ∷ 2 ∷ 0 ∷ 0 ∷ 0 ∷ 0 ∷ 0 ∷ 0 ∷ 0 ∷ 5 ∷ 0 ∷ 0 ∷ 0 ∷ [])
+    ∷ (5 ∷ 8 ∷ 0 ∷ 0 ∷ 3 ∷ 0 ∷ 0 ∷ 0 ∷ 0 ∷ 0 ∷ 0 ∷ 0 ∷ 5 ∷ 0 ∷ 0 ∷ 0 ∷ [])
+    ∷ (5 ∷ 8 ∷ 0 ∷ 0 ∷ 4 ∷ 0 ∷ 0 ∷ 0 ∷ 0 ∷ 0 ∷ 0 ∷ 0 ∷ 5 ∷ 0 ∷ 0 ∷ 0 ∷ [])
+    ∷ []
+
+-- enable constant 0: always the power-on value, whatever the data
+abbrev pub caseEnableZero : Case
+caseEnableZero =
+    record {
+      records = enabledBy (1 ∷ 1 ∷ 0 ∷ 0 ∷ 0 ∷ 0 ∷ 0 ∷ 0 ∷ 0 ∷ 0 ∷ 0 ∷ 0 ∷ 0 ∷ 0 ∷ 0 ∷ 0 ∷ []);
+      rounds = 0;
+      bound-met = false;
+      variables = 5 ∷ 6 ∷ 7 ∷ 8 ∷ [];
+      facts = Always 5 ∷ Always 5 ∷ Always 5 ∷ Always 5 ∷ [];
+    }
+
+-- enable constant 3: the plain register's rule
+abbrev pub caseEnableThree : Case
+caseEnableThree =
+    record {
+      records = enabledBy (1 ∷ 2 ∷ 0 ∷ 0 ∷ 0 ∷ 0 ∷ 0 ∷ 0 ∷ 0 ∷ 0 ∷ 0 ∷ 0 ∷ 3 ∷ 0 ∷ 0 ∷ 0 ∷ []);
+      rounds = 1;
+      bound-met = false;
+      variables = 5 ∷ 6 ∷ 7 ∷ 8 ∷ [];
+      facts = Open ∷ Marked ∷ Always 5 ∷ Open ∷ [];
+    }
+
+-- enable constant 2^31, which is 0 at the registers' width: the plain rule, as all of the enable counts
+abbrev pub caseEnableWide : Case
+caseEnableWide =
+    record {
+      records = enabledBy (1 ∷ 32 ∷ 0 ∷ 0 ∷ 0 ∷ 0 ∷ 0 ∷ 0 ∷ 0 ∷ 0 ∷ 0 ∷ 0 ∷ 0 ∷ 0 ∷ 0 ∷ 128 ∷ []);
+      rounds = 1;
+      bound-met = false;
+      variables = 5 ∷ 6 ∷ 7 ∷ 8 ∷ [];
+      facts = Open ∷ Marked ∷ Always 5 ∷ Open ∷ [];
+    }
+
+-- enable free: the plain register's rule
+abbrev pub caseEnableFree : Case
+caseEnableFree =
+    record {
+      records = enabledBy (0 ∷ 1 ∷ 1 ∷ 0 ∷ 0 ∷ 0 ∷ 0 ∷ 0 ∷ 0 ∷ 0 ∷ 0 ∷ 0 ∷ 0 ∷ 0 ∷ 0 ∷ 0 ∷ []);
+      rounds = 1;
+      bound-met = false;
+      variables = 5 ∷ 6 ∷ 7 ∷ 8 ∷ [];
+      facts = Open ∷ Marked ∷ Always 5 ∷ Open ∷ [];
+    }
+
+-- enable secret: always where the data is always the power-on value, else marked
+abbrev pub caseEnableSecret : Case
+caseEnableSecret =
+    record {
+      records = enabledBy (0 ∷ 1 ∷ 2 ∷ 0 ∷ 0 ∷ 0 ∷ 0 ∷ 0 ∷ 0 ∷ 0 ∷ 0 ∷ 0 ∷ 0 ∷ 0 ∷ 0 ∷ 0 ∷ []);
+      rounds = 1;
+      bound-met = false;
+      variables = 5 ∷ 6 ∷ 7 ∷ 8 ∷ [];
+      facts = Marked ∷ Marked ∷ Always 5 ∷ Marked ∷ [];
+    }
+
+-- a register that is its own enable, with secret data (0): at power-on 0 (1) it is never loaded, at power-on 1 (2) it
+-- is
+abbrev pub caseEnableItself : Case
+caseEnableItself =
+    record {
+      records =
+          (0 ∷ 1 ∷ 2 ∷ 0 ∷ 0 ∷ 0 ∷ 0 ∷ 0 ∷ 0 ∷ 0 ∷ 0 ∷ 0 ∷ 0 ∷ 0 ∷ 0 ∷ 0 ∷ [])
+          ∷ (5 ∷ 1 ∷ 0 ∷ 0 ∷ 0 ∷ 0 ∷ 1 ∷ 0 ∷ 0 ∷ 0 ∷ 0 ∷ 0 ∷ 0 ∷ 0 ∷ 0 ∷ 0 ∷ [])
+          ∷ (5 ∷ 1 ∷ 0 ∷ 0 ∷ 0 ∷ 0 ∷ 2 ∷ 0 ∷ 0 ∷ 0 ∷ 0 ∷ 0 ∷ 1 ∷ 0 ∷ 0 ∷ 0 ∷ [])
+          ∷ [];
+      rounds = 1;
+      bound-met = false;
+      variables = 1 ∷ 2 ∷ [];
+      facts = Always 0 ∷ Marked ∷ [];
+    }
+
+-- an enable (1) that is always 0 before any round, and open after the first: the register that it enables (3), whose
+-- data is free (2), opens in the second
+abbrev pub caseEnableOpens : Case
+caseEnableOpens =
+    record {
+      records =
+          (1 ∷ 1 ∷ 0 ∷ 0 ∷ 0 ∷ 0 ∷ 0 ∷ 0 ∷ 0 ∷ 0 ∷ 0 ∷ 0 ∷ 1 ∷ 0 ∷ 0 ∷ 0 ∷ [])
+          ∷ (4 ∷ 1 ∷ 0 ∷ 0 ∷ 0 ∷ 0 ∷ 0 ∷ 0 ∷ 0 ∷ 0 ∷ 0 ∷ 0 ∷ 0 ∷ 0 ∷ 0 ∷ 0 ∷ [])
+          ∷ (0 ∷ 8 ∷ 1 ∷ 0 ∷ 0 ∷ 0 ∷ 0 ∷ 0 ∷ 0 ∷ 0 ∷ 0 ∷ 0 ∷ 0 ∷ 0 ∷ 0 ∷ 0 ∷ [])
+          ∷ (5 ∷ 8 ∷ 0 ∷ 0 ∷ 2 ∷ 0 ∷ 1 ∷ 0 ∷ 0 ∷ 0 ∷ 0 ∷ 0 ∷ 5 ∷ 0 ∷ 0 ∷ 0 ∷ [])
+          ∷ [];
+      rounds = 2;
+      bound-met = false;
+      variables = 1 ∷ 3 ∷ [];
+      facts = Open ∷ Open ∷ [];
+    }
+
+-- E with enables: register p (1) fed by constant 1 (0), register q (2) fed by p, both with the constant as enable
+abbrev pub caseEnableRow : Case
+caseEnableRow =
+    record {
+      records =
+          (1 ∷ 1 ∷ 0 ∷ 0 ∷ 0 ∷ 0 ∷ 0 ∷ 0 ∷ 0 ∷ 0 ∷ 0 ∷ 0 ∷ 1 ∷ 0 ∷ 0 ∷ 0 ∷ [])
+          ∷ (5 ∷ 1 ∷ 0 ∷ 0 ∷ 0 ∷ 0 ∷ 0 ∷ 0 ∷ 0 ∷ 0 ∷ 0 ∷ 0 ∷ 0 ∷ 0 ∷ 0 ∷ 0 ∷ [])
+          ∷ (5 ∷ 1 ∷ 0 ∷ 0 ∷ 1 ∷ 0 ∷ 0 ∷ 0 ∷ 0 ∷ 0 ∷ 0 ∷ 0 ∷ 0 ∷ 0 ∷ 0 ∷ 0 ∷ [])
+          ∷ [];
+      rounds = 2;
+      bound-met = false;
+      variables = 1 ∷ 2 ∷ [];
+      facts = Open ∷ Open ∷ [];
+    }
+
+-- a counter (2) with a free enable (0), and the sum (3) that feeds it: the register breaks the loop
+abbrev pub caseCounter : Case
+caseCounter =
+    record {
+      records =
+          (0 ∷ 1 ∷ 1 ∷ 0 ∷ 0 ∷ 0 ∷ 0 ∷ 0 ∷ 0 ∷ 0 ∷ 0 ∷ 0 ∷ 0 ∷ 0 ∷ 0 ∷ 0 ∷ [])
+          ∷ (1 ∷ 8 ∷ 0 ∷ 0 ∷ 0 ∷ 0 ∷ 0 ∷ 0 ∷ 0 ∷ 0 ∷ 0 ∷ 0 ∷ 1 ∷ 0 ∷ 0 ∷ 0 ∷ [])
+          ∷ (5 ∷ 8 ∷ 0 ∷ 0 ∷ 3 ∷ 0 ∷ 0 ∷ 0 ∷ 0 ∷ 0 ∷ 0 ∷ 0 ∷ 0 ∷ 0 ∷ 0 ∷ 0 ∷ [])
+          ∷ (2 ∷ 8 ∷ 0 ∷ 0 ∷ 2 ∷ 0 ∷ 1 ∷ 0 ∷ 0 ∷ 0 ∷ 0 ∷ 0 ∷ 0 ∷ 0 ∷ 0 ∷ 0 ∷ [])
+          ∷ [];
+      rounds = 1;
+      bound-met = false;
+      variables = 2 ∷ 3 ∷ [];
+      facts = Open ∷ Open ∷ [];
+    }
+
+-- one register (0), its own enable, at power-on 1, fed by a multiplexer (1) with the register as control, B constant 0
+-- (2), C secret (3): the bound is met
+abbrev pub caseEnableBound : Case
+caseEnableBound =
+    record {
+      records =
+          (5 ∷ 1 ∷ 0 ∷ 0 ∷ 1 ∷ 0 ∷ 0 ∷ 0 ∷ 0 ∷ 0 ∷ 0 ∷ 0 ∷ 1 ∷ 0 ∷ 0 ∷ 0 ∷ [])
+          ∷ (3 ∷ 1 ∷ 0 ∷ 0 ∷ 0 ∷ 0 ∷ 2 ∷ 0 ∷ 3 ∷ 0 ∷ 0 ∷ 0 ∷ 0 ∷ 0 ∷ 0 ∷ 0 ∷ [])
+          ∷ (1 ∷ 1 ∷ 0 ∷ 0 ∷ 0 ∷ 0 ∷ 0 ∷ 0 ∷ 0 ∷ 0 ∷ 0 ∷ 0 ∷ 0 ∷ 0 ∷ 0 ∷ 0 ∷ [])
+          ∷ (0 ∷ 1 ∷ 2 ∷ 0 ∷ 0 ∷ 0 ∷ 0 ∷ 0 ∷ 0 ∷ 0 ∷ 0 ∷ 0 ∷ 0 ∷ 0 ∷ 0 ∷ 0 ∷ [])
+          ∷ [];
+      rounds = 2;
+      bound-met = true;
+      variables = 0 ∷ [];
+      facts = Marked ∷ [];
+    }
+
+abbrev pub requestCases : List Case
+requestCases =
+    caseEnableZero
+    ∷ caseEnableThree
+    ∷ caseEnableWide
+    ∷ caseEnableFree
+    ∷ caseEnableSecret
+    ∷ caseEnableItself
+    ∷ caseEnableOpens
+    ∷ caseEnableRow
+    ∷ caseCounter
+    ∷ caseEnableBound
+    ∷ []
