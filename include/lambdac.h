@@ -20,7 +20,8 @@
 extern "C" {
 #endif
 
-/* Certifies a table of 16-byte records. Asks for 8 bytes of certificate and four 16-bit numbers of scratch a record.
+/* Certifies a table of 16-byte records (tools/table/README.md has their bytes, and those of a stimulus). Asks for 8
+ * bytes of certificate and four 16-bit numbers of scratch a record.
  * Byte 0 of a variable's 8 bytes is 1 always, 2 open, 3 marked; bytes 1 to 3 are 0; bytes 4 to 7 are the number of an
  * always, little-endian, else 0.
  * Returns the number of rounds where the table is accepted, else ground * 2^32 + place; every ground is at least 1, so

@@ -2,7 +2,7 @@
 //! and an earlier one, whose calls have the same names, are called in one run and in the same way.
 
 use crate::{Bench, Certify};
-use model::Refusal;
+use compare::unpacked;
 use std::ffi::{c_char, c_int, c_void, CStr, CString};
 use std::mem::transmute;
 
@@ -62,13 +62,4 @@ fn bench(call: BenchCall) -> &'static Bench {
         let answer = unsafe { call(t, table.len(), l, list.len(), v, values.len(), s, scratch.len()) };
         unpacked(answer).map(|_| ())
     }))
-}
-
-/// The number of an accepted call; or the refusal, which is packed as ground * 2^32 + place.
-fn unpacked(answer: u64) -> Result<u32, Refusal> {
-    let (ground, low) = ((answer >> 32) as u32, answer as u32);
-    match ground {
-        0 => Ok(low),
-        _ => Err(Refusal { ground, place: low as usize }),
-    }
 }

@@ -1,7 +1,7 @@
 //! The tables and lists that are timed.
 
 use crate::common::document_cases::case_a;
-use crate::common::shapes::turned;
+use crate::common::shapes::{ring, turned};
 use crate::common::tables::{random_number, random_stimuli, renumbered};
 use crate::common::{
     constant, enabled, fixed, free, multiplexer, operator, poke_bytes, register, secret, Random,
@@ -41,7 +41,7 @@ fn for_certify(random: &mut Random) -> Vec<Shape> {
         shape("operators, in order", &in_order),
         shape("operators, in reverse", &turned(&in_order)),
         shape("chain of registers", &registers(4096)),
-        shape("ring of registers (2 R)", &ring(random, 1024)),
+        shape("ring of registers (2 R)", &ring(1024, |data| register(1 + random.below(32) as u8, 0, data))),
         shape("multiplexer tree", &multiplexers(random, 2048)),
     ];
     for n in [256, 512, 1024, 2048, 4096] {
@@ -99,14 +99,6 @@ fn operators(random: &mut Random, n: usize) -> Table {
 fn registers(n: usize) -> Table {
     let chain = (1..n).map(|i| register(1, 0, i as u16 - 1));
     std::iter::once(constant(1, 1)).chain(chain).collect()
-}
-
-/// Registers in a ring, which take two rounds each: constant 1 makes them open one after another, and the last
-/// opens the multiplexer through which the secret input then marks them one after another.
-fn ring(random: &mut Random, n: usize) -> Table {
-    let start = [secret(8), constant(1, 1), multiplexer(8, n as u16 - 1, 0, 1)];
-    let registers = (3..n).map(|i| register(1 + random.below(32) as u8, 0, i as u16 - 1));
-    start.into_iter().chain(registers).collect()
 }
 
 /// The input that enables the registers of a chain.

@@ -212,28 +212,23 @@ register-mono w n h = join-mono (narrow-mono w h) itself
 pub register-above : (w n : ℕ) (a : Fact) → Always n ⊑ registerRule w n a
 register-above w n a = join-right (narrow w a) (Always n)
 
-cond-above : (t : Bool) {x y : Fact} → x ⊑ y → x ⊑ cond t x y
-cond-above true h = itself
-cond-above false h = h
-
-cond-below : (t : Bool) {x y : Fact} → x ⊑ y → cond t x y ⊑ y
-cond-below true h = h
-cond-below false h = itself
-
 enable-fact : (b : Fact) (n : ℕ) {f f′ : Fact} → f ⊑ f′ → enable b n f ⊑ enable b n f′
 enable-fact (Always k) n h = cond-mono (eqb k 0) itself h
 enable-fact Open n h = h
 enable-fact Marked n h = alwaysOrMarked-mono h
 
 module _ (n : ℕ) {f : Fact} (above : Always n ⊑ f) where
+  enable-below : (k : ℕ) → enable (Always k) n f ⊑ f
+  enable-below k = cond-case (λ z. z ⊑ f) (eqb k 0) (λ e. above) (λ e. itself)
+
   enable-up : {b b′ : Fact} → b ⊑ b′ → enable b n f ⊑ enable b′ n f
   enable-up itself = itself
-  enable-up (always-open {n = k}) = cond-below (eqb k 0) above
-  enable-up (always-marked {n = k}) = ⊑-trans (cond-below (eqb k 0) above) (alwaysOrMarked-above f)
+  enable-up (always-open {n = k}) = enable-below k
+  enable-up (always-marked {n = k}) = ⊑-trans (enable-below k) (alwaysOrMarked-above f)
   enable-up open-marked = alwaysOrMarked-above f
 
   enable-above : (b : Fact) → Always n ⊑ enable b n f
-  enable-above (Always k) = cond-above (eqb k 0) above
+  enable-above (Always k) = cond-case (λ z. Always n ⊑ z) (eqb k 0) (λ e. itself) (λ e. above)
   enable-above Open = above
   enable-above Marked = ⊑-trans above (alwaysOrMarked-above f)
 

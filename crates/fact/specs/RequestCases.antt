@@ -76,8 +76,7 @@ caseEnableSecret =
       facts = Marked ∷ Marked ∷ Always 5 ∷ Marked ∷ [];
     }
 
--- a register that is its own enable, with secret data (0): at power-on 0 (1) it is never loaded, at power-on 1 (2) it
--- is
+-- registers that are their own enables, with secret data (0): at power-on 0 (1) never loaded, at power-on 1 (2) loaded
 abbrev pub caseEnableItself : Case
 caseEnableItself =
     record {

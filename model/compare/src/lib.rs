@@ -67,7 +67,7 @@ pub fn bill(sizes: &[u32], shares: &mut [u32]) -> Result<u32, Refusal> {
 }
 
 /// The number of an accepted call; or the refusal, which is packed as ground * 2^32 + place.
-fn unpacked(answer: u64) -> Result<u32, Refusal> {
+pub fn unpacked(answer: u64) -> Result<u32, Refusal> {
     let (ground, low) = ((answer >> 32) as u32, answer as u32);
     match ground {
         0 => Ok(low),

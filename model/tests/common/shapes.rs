@@ -75,17 +75,22 @@ pub fn register_chain(random: &mut Random, n: usize) -> Table {
     table
 }
 
-/// Registers in a ring, which take two rounds each: constant 1 makes them open one after another, and the
-/// last opens the multiplexer through which the secret input then marks them one after another. Some have
-/// an enable that keeps none of them back and marks none too early: constant 1, or their data.
+/// A ring of registers, some with an enable that keeps none of them back and marks none too early: constant
+/// 1, or their data.
 pub fn register_ring(random: &mut Random, n: usize) -> Table {
-    let n = n.max(LEAST_RING);
-    let start = [secret(8), constant(1, 1), multiplexer(8, n as u16 - 1, 0, 1)];
-    let ring = (3..n as u16).map(|i| {
-        let (w, data) = (1 + random.below(32) as u8, i - 1);
+    ring(n.max(LEAST_RING), |data| {
+        let w = 1 + random.below(32) as u8;
         random.pick(&[register(w, 0, data), enabled(w, 0, data, 1), enabled(w, 0, data, data)])
-    });
-    start.into_iter().chain(ring).collect()
+    })
+}
+
+/// Registers in a ring, which take two rounds each: constant 1 makes them open one after another, and the
+/// last opens the multiplexer through which the secret input then marks them one after another. `of` gives
+/// the register with this data.
+pub fn ring(n: usize, of: impl FnMut(u16) -> RecordBytes) -> Table {
+    let last = n as u16 - 1;
+    let start = [secret(8), constant(1, 1), multiplexer(8, last, 0, 1)];
+    start.into_iter().chain((2..last).map(of)).collect()
 }
 
 /// A table whose record i is of one of these kinds and uses those in the window of i, or is an input where
