@@ -23,18 +23,19 @@ extern "C" {
 /* Certifies a table of 16-byte records (tools/table/README.md has their bytes, and those of a stimulus). Asks for 8
  * bytes of certificate and four 16-bit numbers of scratch a record.
  * Byte 0 of a variable's 8 bytes is 1 always, 2 open, 3 marked; bytes 1 to 3 are 0; bytes 4 to 7 are the number of an
- * always, little-endian, else 0.
+ * always, little-endian, else 0. An input that is fixed to 0 is always 0, one that is fixed to another number open.
  * Returns the number of rounds where the table is accepted, else ground * 2^32 + place; every ground is at least 1, so
  * a number below 2^32 says that the table was accepted. For ground 11 the place is the length of the loop that stands
  * at the front of the scratch. */
 uint64_t lambdac_certify(const uint8_t *table, size_t table_len, uint8_t *certificate, size_t certificate_len,
                          uint16_t *scratch, size_t scratch_len);
 
-/* Runs a list of 8-byte stimuli on a table of 16-byte records, from power-on. Asks for one 32-bit number of values and
- * four 16-bit numbers of scratch a record. Returns 0 where the table and the list are accepted, and number i of the
- * values is then what variable i holds after the last stimulus; else ground * 2^32 + place. The list is read whole
- * before anything acts: a refused one changes no value. For ground 11 the place is the length of the loop that stands
- * at the front of the scratch. */
+/* Runs a list of 8-byte stimuli on a table of 16-byte records, from power-on, where a register holds its power-on value
+ * and every input 0; a fixed one holds 0 until its own number, which alone is accepted, is poked into it. Asks for one
+ * 32-bit number of values and four 16-bit numbers of scratch a record. Returns 0 where the table and the list are
+ * accepted, and number i of the values is then what variable i holds after the last stimulus; else ground * 2^32 +
+ * place. The list is read whole before anything acts: a refused one changes no value. For ground 11 the place is the
+ * length of the loop that stands at the front of the scratch. */
 uint64_t lambdac_bench(const uint8_t *table, size_t table_len, const uint8_t *stimuli, size_t stimuli_len,
                        uint32_t *values, size_t values_len, uint16_t *scratch, size_t scratch_len);
 

@@ -120,9 +120,11 @@ fn multiplexers(random: &mut Random, leaves: usize) -> Table {
     table
 }
 
+/// Twice as often as not what is always a number: a constant, or an input fixed to 0. (Fixed to another number
+/// it is open, as a free one is.)
 fn leaf(random: &mut Random, w: u8) -> RecordBytes {
     let n = random_number(random, u32::from(w));
-    random.pick(&[fixed(w, n), constant(w, n), fixed(w, n), constant(w, n), free(w), secret(w)])
+    random.pick(&[fixed(w, 0), constant(w, n), constant(w, n), constant(w, n), free(w), secret(w)])
 }
 
 /// All kinds, half of the uses near and half far, in a random order. A register uses any variable.

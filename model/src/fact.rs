@@ -75,12 +75,12 @@ impl Record {
 }
 
 impl InputKind {
-    /// The fact of an input.
+    /// The fact of an input. A fixed one holds 0 until its n is poked into it (request S-3).
     #[inline(always)]
     pub(crate) fn fact(self) -> Fact {
         match self {
-            InputKind::Fixed(n) => Fact::Always(n),
-            InputKind::Free => Fact::Open,
+            InputKind::Fixed(0) => Fact::Always(0),
+            InputKind::Fixed(_) | InputKind::Free => Fact::Open,
             InputKind::Secret => Fact::Marked,
         }
     }

@@ -1,11 +1,12 @@
-//! The reference model of document 01 and of two requests, S-1, the price list, and S-2, the register with an
-//! enable, written from their definitions and not for speed.
+//! The reference model of document 01 and of three requests, S-1, the price list, S-2, the register with an
+//! enable, and S-3, fixed inputs that power up at 0, written from their definitions and not for speed.
 //!
 //! In the document's order: `record` (kinds, operators, records), `fields` (the bytes of a record and their
 //! reading), `wires` (uses, loops, settling), `fact` (facts, rules, closed stores), `certify` (rounds, the
 //! certificate and its call), `machine` (power-on, poke, tick), `bench` (stimuli and the bench call) and
 //! `table` (the grounds that these calls share). Request S-2's kind of record stands among the five of the
-//! document in `record`, `fields`, `fact`, `machine` and `certify`. From S-1: `bill` (the bill of an order).
+//! document in `record`, `fields`, `fact`, `machine` and `certify`; `machine` has an input's first value and
+//! `fact` its fact as S-3 has them. From S-1: `bill` (the bill of an order).
 //!
 //! The benchmark's variants read and evaluate records by what is here too. What they call again and again is
 //! always inlined, so that no call between the crates is timed.

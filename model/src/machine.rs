@@ -1,7 +1,7 @@
 //! Document 01, "The bench machine": the state is one value a variable; power-on, poke and tick each give
-//! the state after them, on a copy.
+//! the state after them, on a copy. At power-on every input holds 0, fixed ones too (request S-3).
 
-use crate::{remainder, settle, together, InputKind, Record};
+use crate::{remainder, settle, together, Record};
 
 /// The value that the record of variable i gives from a state.
 pub fn value(records: &[Record], state: &[u32], i: usize) -> u32 {
@@ -27,12 +27,11 @@ impl Record {
         }
     }
 
-    /// The value at power-on: a fixed input holds n, free and secret ones 0, a register its power-on value.
-    /// A wire's follows from them, whatever it is here.
+    /// The value at power-on: an input holds 0, a fixed one too, a register its power-on value. A wire's
+    /// follows from them, whatever it is here.
     #[inline(always)]
     pub fn first_value(self) -> u32 {
         match self {
-            Record::Input { kind: InputKind::Fixed(n), .. } => n,
             Record::Register { power_on, .. } | Record::Enabled { power_on, .. } => power_on,
             _ => 0,
         }

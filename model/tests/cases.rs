@@ -1,10 +1,11 @@
-//! Document 01's cases A to M and cases of registers with an enable, with their whole certificates, and bench
-//! runs worked by hand.
+//! Document 01's cases A to M, C as request S-3 has it, and cases of registers with an enable and of fixed
+//! inputs, with their whole certificates, and bench runs worked by hand.
 
 mod common;
 
 use common::document_cases::{document_cases, Case};
 use common::enable_cases::enable_cases;
+use common::fixed_cases::fixed_cases;
 use common::hand_runs::hand_runs;
 use common::printed::printed_certificate;
 use common::{bench_longer, certify_longer};
@@ -27,6 +28,11 @@ fn cases_a_to_m() {
 #[test]
 fn registers_with_an_enable() {
     assert_certified(enable_cases());
+}
+
+#[test]
+fn fixed_inputs() {
+    assert_certified(fixed_cases());
 }
 
 #[test]

@@ -5,48 +5,11 @@ mod common;
 
 use common::shapes::{chain, layers, register_chain, register_ring, table_or_shape};
 use common::tables::{random_stimuli, random_table};
+use common::times::{beside, Times, ALL, MARKED, OPEN, OTHER, THIS};
 use common::{cases, Random};
 use model::{
-    before_any_round, fits, poke, power_on, read_records, remainder, rounds, tick, Fact, Record, Stimulus,
+    before_any_round, fits, poke, power_on, read_records, remainder, rounds, tick, Record, Stimulus,
 };
-use std::collections::BTreeMap;
-
-const THIS: &str = "this";
-const OTHER: &str = "other";
-const OPEN: &str = "open";
-const MARKED: &str = "marked";
-
-/// What a fact says beside a number: always that one, always another, open or marked.
-fn beside(n: u32, fact: Fact) -> &'static str {
-    match fact {
-        Fact::Always(other) if other == n => THIS,
-        Fact::Always(_) => OTHER,
-        Fact::Open => OPEN,
-        Fact::Marked => MARKED,
-    }
-}
-
-/// How often each of some cases occurred.
-#[derive(Debug)]
-struct Times<C>(BTreeMap<C, usize>);
-
-impl<C: Ord + Copy + std::fmt::Debug> Times<C> {
-    /// Each of these cases, not met yet.
-    fn none(cases: &[C]) -> Times<C> {
-        Times(cases.iter().map(|&case| (case, 0)).collect())
-    }
-
-    /// Counts a case, which must be one of them.
-    fn count(&mut self, case: C) {
-        *self.0.get_mut(&case).unwrap_or_else(|| panic!("{case:?} can't be")) += 1;
-    }
-
-    /// Asserts that each occurred in so many of a thousand.
-    fn assert_each(&self, all: usize, share: usize) {
-        println!("of {all}: {:?}", self.0);
-        assert!(self.0.values().all(|times| times * 1000 >= all * share), "of {all}: {:?}", self.0);
-    }
-}
 
 /// What the certificates of random tables have of registers with an enable.
 struct Certified {
@@ -64,12 +27,11 @@ struct Certified {
 impl Certified {
     /// Every case that can be, not met yet.
     fn none() -> Certified {
-        let all = [THIS, OTHER, OPEN, MARKED];
-        let operands: Vec<_> = all.into_iter().flat_map(|b| all.map(|a| [b, a])).collect();
+        let operands: Vec<_> = ALL.into_iter().flat_map(|b| ALL.map(|a| [b, a])).collect();
         let other_or_open = [OTHER, OPEN].into_iter().flat_map(|b| [THIS, OPEN, MARKED].map(|i| [b, i]));
         let this_or_marked = [[THIS, THIS], [MARKED, THIS], [MARKED, MARKED]];
         let results: Vec<_> = other_or_open.chain(this_or_marked).collect();
-        let stay = all.map(|b| [b, b]);
+        let stay = ALL.map(|b| [b, b]);
         let rise = [[THIS, OPEN], [THIS, MARKED], [OTHER, OPEN], [OTHER, MARKED], [OPEN, MARKED]];
         Certified {
             registers: 0,

@@ -66,12 +66,14 @@ fn result(operator: Operator, a: u32, b: u32, w: u32) -> u32 {
 }
 
 /// What the rule gives a variable from a store: nothing yet while an operand that it needs has nothing. A
-/// register has its power-on value at least, and what it may load beside; one with an enable may load where
-/// that may be other than 0, and a secret tells whether it did where it holds one of several numbers.
+/// fixed input holds 0 at first, and n once it is poked. A register has its power-on value at least, and what
+/// it may load beside; one with an enable may load where that may be other than 0, and a secret tells whether
+/// it did where it holds one of several numbers.
 fn rule_from_below(record: &Record, store: &[Below]) -> Below {
     match *record {
-        Record::Input { kind: InputKind::Fixed(n), .. } | Record::Constant { n, .. } => always(n),
+        Record::Input { kind: InputKind::Fixed(n), .. } => join(always(0), always(n)),
         Record::Input { kind, .. } => unknown(kind == InputKind::Secret),
+        Record::Constant { n, .. } => always(n),
         Record::Operator { width, operator, a, b } => {
             let (a, b) = (store[a]?, store[b]?);
             match (a.number, b.number) {

@@ -1,15 +1,15 @@
 //! Random tables and lists, well-formed and damaged: both calls refuse as each ground says when it is read
 //! alone, a shown row is a loop, an accepted table has none, the bench holds what a machine without stored
-//! wires holds, the order of the records matters for nothing, and a register with an enable does what a
-//! multiplexer and a register do.
+//! wires holds, the order of the records matters for nothing, a register with an enable does what a
+//! multiplexer and a register do, and a fixed input what a free one or constant 0 does.
 
 mod common;
 
 use common::shapes::table_or_shape;
 use common::tables::{damage, random_stimuli, random_table, renumbered};
 use common::{
-    assert_shows_loop, bench_longer, bench_on, cases, certify_longer, certify_on, multiplexer, register,
-    Random, RecordBytes, Table,
+    assert_shows_loop, bench_longer, bench_on, cases, certify_longer, certify_on, constant, free,
+    multiplexer, register, Random, RecordBytes, StimulusBytes, Table,
 };
 use model::{read_records, settle, value, InputKind, Record};
 
@@ -132,7 +132,6 @@ fn check_table(table: &[u8], longer: usize) -> u32 {
 /// The values after a list, by a machine that stores inputs and registers and works a wire out when asked.
 fn values_without_stored_wires(records: &[Record], list: &[u8]) -> Vec<u32> {
     let start = records.iter().map(|record| match *record {
-        Record::Input { kind: InputKind::Fixed(n), .. } => Some(n),
         Record::Input { .. } => Some(0),
         Record::Register { power_on, .. } | Record::Enabled { power_on, .. } => Some(power_on),
         _ => None,
@@ -190,6 +189,24 @@ fn without_enables(table: &[RecordBytes]) -> Table {
         }
     }
     plain
+}
+
+/// The table in which constant 0 stands for each input that is fixed to 0, and a free input for each that is
+/// fixed to another number.
+fn without_fixed_inputs(table: &[RecordBytes]) -> Table {
+    let records = read_records(table.as_flattened()).unwrap();
+    let stands_for = |(bytes, record): (&RecordBytes, &Record)| match *record {
+        Record::Input { width, kind: InputKind::Fixed(0) } => constant(width as u8, 0),
+        Record::Input { width, kind: InputKind::Fixed(_) } => free(width as u8),
+        _ => *bytes,
+    };
+    table.iter().zip(&records).map(stands_for).collect()
+}
+
+/// The list without its pokes of variables that are no inputs of the table.
+fn without_other_pokes(list: &[StimulusBytes], table: &[RecordBytes]) -> Vec<StimulusBytes> {
+    let is_input = |stimulus: &StimulusBytes| table[number(&stimulus[2..4]) as usize][0] == 0;
+    list.iter().filter(|stimulus| stimulus[0] == 1 || is_input(stimulus)).copied().collect()
 }
 
 #[test]
@@ -333,5 +350,21 @@ fn a_register_with_an_enable_does_what_a_multiplexer_and_a_register_do() {
         let list = random_stimuli(&mut random, &read_records(table).unwrap(), length);
         let values = bench_longer(plain, list.as_flattened(), 0).unwrap();
         assert_eq!(bench_longer(table, list.as_flattened(), 0), Ok(values[..n].to_vec()));
+    }
+}
+
+#[test]
+fn a_fixed_input_does_what_a_free_one_or_constant_0_does() {
+    let mut random = Random::of_test("without fixed inputs", 24);
+    for _ in 0..cases(20_000) {
+        let (n, length) = (1 + random.below(40), random.below(30));
+        let table = table_or_shape(&mut random, n);
+        let other = without_fixed_inputs(&table);
+        let list = random_stimuli(&mut random, &read_records(table.as_flattened()).unwrap(), length);
+        let other_list = without_other_pokes(&list, &other);
+        assert_eq!(certify_longer(table.as_flattened(), 0), certify_longer(other.as_flattened(), 0));
+        let values = bench_longer(other.as_flattened(), other_list.as_flattened(), 0);
+        assert!(values.is_ok());
+        assert_eq!(bench_longer(table.as_flattened(), list.as_flattened(), 0), values);
     }
 }

@@ -432,8 +432,13 @@ fn ground_17() {
     for n in [0, 8, 10, 15] {
         let stimuli = [poke_bytes(FIXED as u16, 9), poke_bytes(FIXED as u16, n)];
         assert_bench_refused(&with(&[]), stimuli.as_flattened(), 17, 1);
+        // 0 too, which the input holds until it is poked.
+        assert_bench_refused(&with(&[]), &stimuli[1], 17, 0);
     }
     assert!(bench_longer(&with(&[]), &poke_bytes(FIXED as u16, 9), 0).is_ok());
+    let fixed_to_0 = with(&[(FIXED, 12, 0)]);
+    assert_bench_refused(&fixed_to_0, &poke_bytes(FIXED as u16, 9), 17, 0);
+    assert!(bench_longer(&fixed_to_0, &poke_bytes(FIXED as u16, 0), 0).is_ok());
 }
 
 #[test]

@@ -1,9 +1,11 @@
-//! The order of facts, the operators and the rules of multiplexers and registers, each held against the
-//! words of document 01, or of request S-2, by example or over all of a small range.
+//! The order of facts, the operators and the rules of inputs, multiplexers and registers, each held against
+//! the words of document 01, or of requests S-2 and S-3, by example or over all of a small range.
 
 mod common;
 
-use common::{bench_longer, enabled, fixed, free, multiplexer, operator, poke_bytes, register, TICK};
+use common::{
+    bench_longer, enabled, fixed, free, multiplexer, operator, poke_bytes, register, secret, TICK,
+};
 use model::Fact::{self, Always, Marked, Open};
 use model::{closed, fits, read_records, remainder, rule, Operator, Operator::*};
 
@@ -102,6 +104,22 @@ fn operators_by_repeated_steps() {
             let times = if b < 32 { (times % u64::from(power)) as u32 } else { 0 };
             assert_eq!(ShiftLeft.result(a, b, w), times);
             assert_eq!(ShiftRight.result(a, b, w), divided % power);
+        }
+    }
+}
+
+#[test]
+fn the_rule_of_an_input() {
+    let fixed_to = |n: u32| if n == 0 { Always(0) } else { Open };
+    for w in 1..=32 {
+        let numbers = [0, 1, 1 << (w - 1), u32::MAX >> (32 - w)];
+        let inputs = numbers.map(|n| (fixed(w, n), fixed_to(n)));
+        for (input, fact) in inputs.into_iter().chain([(free(w), Open), (secret(w), Marked)]) {
+            let records = read_records(&input).unwrap();
+            // What the input has already counts for nothing.
+            for own in FACTS {
+                assert_eq!(rule(&records, &[own], 0), fact, "{input:?}");
+            }
         }
     }
 }
@@ -227,6 +245,16 @@ fn closed_stores() {
 }
 
 #[test]
+fn closed_stores_of_a_fixed_input() {
+    for (n, at_or_above) in [(6, &[Open, Marked][..]), (0, &[Always(0), Open, Marked])] {
+        let records = read_records(&fixed(8, n)).unwrap();
+        for fact in FACTS {
+            assert_eq!(closed(&records, &[fact]), at_or_above.contains(&fact), "{n} {fact:?}");
+        }
+    }
+}
+
+#[test]
 fn closed_stores_with_an_enable() {
     let records = [free(8), fixed(8, 0), enabled(2, 1, 0, 1)];
     let records = read_records(records.as_flattened()).unwrap();
@@ -263,12 +291,29 @@ fn a_tick_with_every_enable() {
 }
 
 #[test]
+fn every_input_holds_0_at_power_on() {
+    for w in 1..=32 {
+        let n = u32::MAX >> (32 - w);
+        let inputs = [fixed(w, n), fixed(w, 0), free(w), secret(w)];
+        let table = [&inputs[..], &[register(w, n, 0), enabled(w, n, 0, 0)]].concat();
+        let after = |stimuli: &[[u8; 8]]| bench_longer(table.as_flattened(), stimuli.as_flattened(), 0);
+        assert_eq!(after(&[]), Ok(vec![0, 0, 0, 0, n, n]));
+        assert_eq!(after(&[TICK]), Ok(vec![0, 0, 0, 0, 0, n]));
+        assert_eq!(after(&[TICK, poke_bytes(0, n)]), Ok(vec![n, 0, 0, 0, 0, n]));
+        assert_eq!(after(&[TICK, poke_bytes(0, n), TICK]), Ok(vec![n, 0, 0, 0, n, n]));
+    }
+}
+
+#[test]
 fn pokes_move_wires_and_no_register() {
     let table = [free(8), fixed(4, 9), multiplexer(2, 0, 1, 3), register(8, 6, 0), operator(Add, 8, 2, 3)];
     let after = |stimuli: &[[u8; 8]]| bench_longer(table.as_flattened(), stimuli.as_flattened(), 0);
-    assert_eq!(after(&[]), Ok(vec![0, 9, 2, 6, 8]));
-    assert_eq!(after(&[poke_bytes(0, 200)]), Ok(vec![200, 9, 1, 6, 7]));
-    assert_eq!(after(&[poke_bytes(0, 200), TICK]), Ok(vec![200, 9, 1, 200, 201]));
-    let again = [poke_bytes(0, 200), TICK, poke_bytes(0, 0), poke_bytes(1, 9)];
+    let (free, fixed) = (poke_bytes(0, 200), poke_bytes(1, 9));
+    assert_eq!(after(&[]), Ok(vec![0, 0, 2, 6, 8]));
+    assert_eq!(after(&[free]), Ok(vec![200, 0, 0, 6, 6]));
+    assert_eq!(after(&[fixed]), Ok(vec![0, 9, 2, 6, 8]));
+    assert_eq!(after(&[fixed, free]), Ok(vec![200, 9, 1, 6, 7]));
+    assert_eq!(after(&[fixed, free, TICK]), Ok(vec![200, 9, 1, 200, 201]));
+    let again = [fixed, free, TICK, poke_bytes(0, 0), fixed];
     assert_eq!(after(&again), Ok(vec![0, 9, 0, 200, 200]));
 }

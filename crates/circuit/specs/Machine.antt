@@ -1,4 +1,4 @@
--- Document 01's bench machine of a circuit: its state is one value a variable.
+-- Document 01's bench machine of a circuit, with request S-3's power-on: its state is one value a variable.
 -- Assumes nothing.
 use mathlib.Core.Bool.{cond}
 use mathlib.Core.List.{List}
@@ -7,7 +7,6 @@ use lib.Dec.{eqb}
 use Rattle.net.specs.declared.Stimulus.{Stimulus}
 use Rattle.net.specs.Net.{settle}
 use Rattle.net.specs.Machine.{run}
-use Rattle.circuit.specs.declared.record.InputKind.the-variants.{Fixed, Free, Secret}
 use Rattle.circuit.specs.declared.record.Record.{Record}
 use Rattle.circuit.specs.declared.record.Record.the-variants.{Input, Constant, Operator, Multiplexer, Register, Enabled}
 use Rattle.circuit.specs.Operator.{result}
@@ -36,18 +35,17 @@ unfoldable pub values : Circuit → (ℕ → ℕ) → ℕ → ℕ
 unfolding value
 values c s v = value (recordOf c v) s (s v)
 
--- what an input or a register holds at power-on; wires follow
+-- what an input or a register holds at power-on: every input 0, a fixed one until n is poked into it; a register its
+-- power-on value; wires follow
 abbrev pub initial : Record → ℕ
-initial (Input w (Fixed n)) = n
-initial (Input w Free) = 0
-initial (Input w Secret) = 0
+initial (Input w k) = 0
 initial (Constant w n) = 0
 initial (Operator w op a b) = 0
 initial (Multiplexer w a b c) = 0
 initial (Register w a n) = n
 initial (Enabled w a b n) = n
 
--- document 01's power-on; in a circuit without a loop the wires hold the one set of values that satisfies all their
+-- the state at power-on; in a circuit without a loop the wires hold the one set of values that satisfies all their
 -- records
 unfoldable pub powerOn : Circuit → ℕ → ℕ
 unfolding settle values

@@ -117,6 +117,44 @@ enabledRuns =
     ∷ enabledFor 13 (600 ∷ 1 ∷ 88 ∷ 1 ∷ 2147483648 ∷ 0 ∷ [])
     ∷ []
 
+-- An input fixed to 9, one fixed to 0, a free and a secret one, all of width 4. A register of width 8 that takes the
+-- first, at power-on 7; the sum of the first and the register.
+abbrev inputs : List (List ℕ)
+inputs =
+    (0 ∷ 4 ∷ 0 ∷ 0 ∷ 0 ∷ 0 ∷ 0 ∷ 0 ∷ 0 ∷ 0 ∷ 0 ∷ 0 ∷ 9 ∷ 0 ∷ 0 ∷ 0 ∷ [])
+    ∷ (0 ∷ 4 ∷ 0 ∷ 0 ∷ 0 ∷ 0 ∷ 0 ∷ 0 ∷ 0 ∷ 0 ∷ 0 ∷ 0 ∷ 0 ∷ 0 ∷ 0 ∷ 0 ∷ [])
+    ∷ (0 ∷ 4 ∷ 1 ∷ 0 ∷ 0 ∷ 0 ∷ 0 ∷ 0 ∷ 0 ∷ 0 ∷ 0 ∷ 0 ∷ 0 ∷ 0 ∷ 0 ∷ 0 ∷ [])
+    ∷ (0 ∷ 4 ∷ 2 ∷ 0 ∷ 0 ∷ 0 ∷ 0 ∷ 0 ∷ 0 ∷ 0 ∷ 0 ∷ 0 ∷ 0 ∷ 0 ∷ 0 ∷ 0 ∷ [])
+    ∷ (4 ∷ 8 ∷ 0 ∷ 0 ∷ 0 ∷ 0 ∷ 0 ∷ 0 ∷ 0 ∷ 0 ∷ 0 ∷ 0 ∷ 7 ∷ 0 ∷ 0 ∷ 0 ∷ [])
+    ∷ (2 ∷ 8 ∷ 0 ∷ 0 ∷ 0 ∷ 0 ∷ 4 ∷ 0 ∷ 0 ∷ 0 ∷ 0 ∷ 0 ∷ 0 ∷ 0 ∷ 0 ∷ 0 ∷ [])
+    ∷ []
+
+-- tick; poke the first 9; tick; poke the second 0; poke the first 9; tick
+abbrev poking : List (List ℕ)
+poking =
+    (1 ∷ 0 ∷ 0 ∷ 0 ∷ 0 ∷ 0 ∷ 0 ∷ 0 ∷ [])
+    ∷ (0 ∷ 0 ∷ 0 ∷ 0 ∷ 9 ∷ 0 ∷ 0 ∷ 0 ∷ [])
+    ∷ (1 ∷ 0 ∷ 0 ∷ 0 ∷ 0 ∷ 0 ∷ 0 ∷ 0 ∷ [])
+    ∷ (0 ∷ 0 ∷ 1 ∷ 0 ∷ 0 ∷ 0 ∷ 0 ∷ 0 ∷ [])
+    ∷ (0 ∷ 0 ∷ 0 ∷ 0 ∷ 9 ∷ 0 ∷ 0 ∷ 0 ∷ [])
+    ∷ (1 ∷ 0 ∷ 0 ∷ 0 ∷ 0 ∷ 0 ∷ 0 ∷ 0 ∷ [])
+    ∷ []
+
+-- the inputs after the first k stimuli
+abbrev poked : ℕ → List ℕ → Run
+poked k values = record { records = inputs; stimuli = take k poking; values = values }
+
+-- At power-on every input holds 0 and the register its power-on value. A fixed input that is not poked holds 0 over a
+-- tick; poked, it has its number for good.
+abbrev pub inputRuns : List Run
+inputRuns =
+    poked 0 (0 ∷ 0 ∷ 0 ∷ 0 ∷ 7 ∷ 7 ∷ [])
+    ∷ poked 1 (0 ∷ 0 ∷ 0 ∷ 0 ∷ 0 ∷ 0 ∷ [])
+    ∷ poked 2 (9 ∷ 0 ∷ 0 ∷ 0 ∷ 0 ∷ 9 ∷ [])
+    ∷ poked 3 (9 ∷ 0 ∷ 0 ∷ 0 ∷ 9 ∷ 18 ∷ [])
+    ∷ poked 6 (9 ∷ 0 ∷ 0 ∷ 0 ∷ 9 ∷ 18 ∷ [])
+    ∷ []
+
 abbrev pub runs : List Run
 runs =
     accumulated 0 (0 ∷ 0 ∷ 0 ∷ 0 ∷ 0 ∷ 0 ∷ 0 ∷ 0 ∷ 0 ∷ [])
@@ -124,11 +162,11 @@ runs =
     ∷ accumulated 2 (2 ∷ 1 ∷ 0 ∷ 0 ∷ 0 ∷ 2 ∷ 0 ∷ 2 ∷ 2 ∷ [])
     ∷ accumulated 3 (2 ∷ 1 ∷ 0 ∷ 2 ∷ 0 ∷ 4 ∷ 0 ∷ 4 ∷ 4 ∷ [])
     ∷ accumulated 4 (2 ∷ 1 ∷ 0 ∷ 4 ∷ 2 ∷ 6 ∷ 0 ∷ 6 ∷ 6 ∷ [])
-    ∷ record { records = exchange; stimuli = []; values = 9 ∷ 19 ∷ 5 ∷ 0 ∷ 10 ∷ [] }
+    ∷ record { records = exchange; stimuli = []; values = 0 ∷ 19 ∷ 5 ∷ 0 ∷ 3 ∷ [] }
     ∷ record {
       records = exchange;
       stimuli =
-          (1 ∷ 0 ∷ 0 ∷ 0 ∷ 0 ∷ 0 ∷ 0 ∷ 0 ∷ []) ∷ [];
+          (1 ∷ 0 ∷ 0 ∷ 0 ∷ 0 ∷ 0 ∷ 0 ∷ 0 ∷ []) ∷ (0 ∷ 0 ∷ 0 ∷ 0 ∷ 9 ∷ 0 ∷ 0 ∷ 0 ∷ []) ∷ [];
       values = 9 ∷ 5 ∷ 3 ∷ 0 ∷ 12 ∷ [];
     }
     ∷ []
@@ -154,4 +192,11 @@ enabled-runs-hold = (
       ((refl, refl, refl), ((refl, refl, refl), ((refl, refl, refl), ((refl, refl, refl), ((refl, refl, refl), tt))))),
     ),
   ),
+)
+
+pub input-runs-hold : RunsHold inputRuns
+unfolding flatten circuit checkRecords checkStimuli stimuli machine listBelow
+input-runs-hold = (
+  (refl, refl, refl),
+  ((refl, refl, refl), ((refl, refl, refl), ((refl, refl, refl), ((refl, refl, refl), tt)))),
 )

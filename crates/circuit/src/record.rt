@@ -286,16 +286,12 @@ pub fn read_record(f: Fields, n: usize) -> ReadRecord
     ReadRecord::Read(r)
 }
 
-// What an input or a register holds at power-on, 0 for a wire.
+// What a register holds at power-on; 0 for an input, a fixed one too, and for a wire.
 pub fn initial_value(r: Record) -> u32
     ensures { λ n. ⌜ n ≡ initial r ⌝ }
 {
     match r {
-        Record::Input(_, kind) => match kind {
-            InputKind::Fixed(n) => n,
-            InputKind::Free => 0,
-            InputKind::Secret => 0,
-        },
+        Record::Input(_, _) => 0,
         Record::Constant(_, _) => 0,
         Record::Operator(_, _, _, _) => 0,
         Record::Multiplexer(_, _, _, _) => 0,

@@ -14,7 +14,7 @@ use Rattle.fact.specs.Certificate.{registers, rounds, certificate}
 use Rattle.fact.specs.Cases.{Case, CasesHold, caseA, caseB, caseC, caseD, caseE, caseF, caseG, caseH, caseI, caseJ, cases}
 use Rattle.fact.specs.RequestCases.{caseEnableZero, caseEnableThree, caseEnableWide, caseEnableFree}
 use Rattle.fact.specs.RequestCases.{caseEnableSecret, caseEnableItself, caseEnableOpens, caseEnableRow}
-use Rattle.fact.specs.RequestCases.{caseCounter, caseEnableBound, requestCases}
+use Rattle.fact.specs.RequestCases.{caseCounter, caseEnableBound, caseFixed, requestCases}
 
 -- numbers of A's variables that fall along every wire's uses
 abbrev ranksA : List ℕ
@@ -59,4 +59,5 @@ request-cases-hold =
     also (refl, refl, no-loop caseEnableRow [] refl tt, refl, refl, refl)
     also (refl, refl, no-loop caseCounter (0 ∷ 0 ∷ 0 ∷ 1 ∷ []) refl tt, refl, refl, refl)
     also (refl, refl, no-loop caseEnableBound (0 ∷ 1 ∷ []) refl tt, refl, refl, refl)
+    also (refl, refl, no-loop caseFixed (0 ∷ 0 ∷ 0 ∷ 0 ∷ 0 ∷ 0 ∷ 1 ∷ 1 ∷ 1 ∷ 0 ∷ 0 ∷ 1 ∷ []) refl tt, refl, refl, refl)
     also tt

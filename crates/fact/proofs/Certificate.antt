@@ -10,13 +10,13 @@ use mathlib.Core.Option.{none, some}
 use Prim.Native.Nat.{ℕ, suc, _*_, _<_, _≤_}
 use native.Mathlib.Omega.{arith}
 use borrow.Author.Tests.{eqb-true, not-false}
-use lib.Dec.{T}
+use lib.Dec.{T, eqb}
 use lib.ListN.{length}
 use Rattle.net.specs.declared.Stimulus.{Stimulus}
 use Rattle.net.specs.Tests.{member}
 use Rattle.net.specs.Net.{input, wire, register, sumRegisters, stopped, Fixpoint, Counts}
 use Rattle.net.specs.Machine as machine
-use Rattle.net.proofs.Bools.{member-1, member-2, member-3}
+use Rattle.net.proofs.Bools.{cond-case, member-1, member-2, member-3}
 use Rattle.net.proofs.Sums.{sumRegisters-scale}
 use Rattle.net.proofs.Settle.{input-wire, input-register, wire-register, Ranked, Local}
 use Rattle.net.proofs.Rounds.{Monotone, Heights, count-few, count-counts, stopped-fixpoint, fixpoint-closed, rounds-below}
@@ -33,7 +33,7 @@ use Rattle.circuit.proofs.Tables.{Inside, circuit-ranked}
 use Rattle.circuit.proofs.Values.{values-local}
 use Rattle.circuit.proofs.Stimuli.{Poked, poke-passed, input-record}
 use Rattle.fact.specs.declared.Fact.{Fact}
-use Rattle.fact.specs.declared.Fact.the-variants.{Always, Open}
+use Rattle.fact.specs.declared.Fact.the-variants.{Open}
 use Rattle.fact.specs.Fact.{_⊑_, itself, same}
 use Rattle.fact.specs.Rule.{inputRule, ruleOf, rule}
 use Rattle.fact.specs.Certificate.{LeastStore, initialFact, initialStore, registers, rounds, certificate}
@@ -99,7 +99,7 @@ rule-claims (Enabled w a b n) s m m′ own own′ q h held =
 
 -- at power-on
 initial-claims : (r : Record) → (role r ≡ wire → ⊥) → Claims (initialFact r) (initial r) (initial r)
-initial-claims (Input w (Fixed n)) q = number
+initial-claims (Input w (Fixed n)) q = cond-case (λ f. Claims f 0 0) (eqb n 0) (λ e. number) (λ e. alike)
 initial-claims (Input w Free) q = alike
 initial-claims (Input w Secret) q = nothing
 initial-claims (Constant w n) q = absurd (q refl)
@@ -113,7 +113,7 @@ poke-claims : (k : InputKind) (x y : ℕ) → fixedToOther (some k) x ≡ false 
     → Claims (inputRule k) x y
 poke-claims (Fixed n) x y allowed (inl e) =
     let is : x ≡ n = eqb-true x n (not-false _ allowed) in
-    subst (λ z. Claims (Always n) x z) e (rw is number)
+    rw (← e, is) (cond-case (λ f. Claims f n n) (eqb n 0) (λ z. rw (eqb-true n 0 z) number) (λ z. alike))
 poke-claims (Fixed n) x y allowed (inr t) = absurd t
 poke-claims Free x y allowed (inl e) = subst (λ z. Claims Open x z) e alike
 poke-claims Free x y allowed (inr t) = absurd t

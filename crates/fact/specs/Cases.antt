@@ -1,5 +1,5 @@
--- Document 01's cases A to J, from bytes: the table's 16-byte records, the count of rounds, whether it meets the bound,
--- and the facts that the document names.
+-- Document 01's cases A to J, C as request S-3 has it, from bytes: the table's 16-byte records, the count of rounds,
+-- whether it meets the bound, and the facts that the two name.
 -- Assumes nothing.
 use mathlib.Core.Path.{_≡_}
 use mathlib.Core.Bool.{Bool, true, false}
@@ -71,7 +71,7 @@ caseB =
       facts = Always 0 ∷ Always 0 ∷ Always 0 ∷ Always 5 ∷ [];
     }
 
--- C: record 1 fixed 1
+-- C: record 1 fixed 1, which is open, as it holds 0 until poked
 abbrev pub caseC : Case
 caseC =
     record {
@@ -79,7 +79,7 @@ caseC =
       rounds = 1;
       bound-met = false;
       variables = 1 ∷ 3 ∷ 4 ∷ 5 ∷ [];
-      facts = Always 1 ∷ Open ∷ Open ∷ Open ∷ [];
+      facts = Open ∷ Open ∷ Open ∷ Open ∷ [];
     }
 
 -- D: record 1 secret

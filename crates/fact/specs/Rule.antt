@@ -14,9 +14,10 @@ use Rattle.fact.specs.declared.Fact.{Fact}
 use Rattle.fact.specs.declared.Fact.the-variants.{Always, Open, Marked}
 use Rattle.fact.specs.Fact.{join, narrow}
 
--- a fixed input is always n, a free one open, a secret one marked
+-- a fixed input, which holds 0 until n is poked into it, is always 0 where n is 0, else open; a free one is open, a
+-- secret one marked
 abbrev pub inputRule : InputKind → Fact
-inputRule (Fixed n) = Always n
+inputRule (Fixed n) = cond (eqb n 0) (Always 0) Open
 inputRule Free = Open
 inputRule Secret = Marked
 

@@ -1,5 +1,5 @@
 // Facts about the variables of a circuit: their order, the rule of each kind of record, the rounds, and the
-// certificate. Document 01's cases A to J are proved here from bytes.
+// certificate. Document 01's cases A to J, C as request S-3 has it, are proved here from bytes.
 pub mod cell;
 
 ghost use mathlib.Core.Path.{_≡_};
@@ -71,7 +71,7 @@ pub fn input_rule(kind: InputKind) -> Fact
     ensures { λ r. ⌜ r ≡ rules.inputRule kind ⌝ }
 {
     match kind {
-        InputKind::Fixed(n) => Fact::Always(n),
+        InputKind::Fixed(n) => if n == 0 { Fact::Always(n) } else { Fact::Open },
         InputKind::Free => Fact::Open,
         InputKind::Secret => Fact::MARKED,
     }

@@ -1,25 +1,25 @@
--- The premises of demand 3 can be met, by lists whose secret pokes differ: three promises that hold of case A's table,
--- with buffers that are written out, and runs in which the secret input ends with two numbers.
+-- The premises of demand 3 can be met, by lists whose secret pokes differ and that poke a fixed input: three promises
+-- that hold of one table, with buffers that are written out, and runs in which the secret input ends with two numbers.
 -- Assumes nothing.
 use mathlib.Core.Path.{_≡_, refl, sym, ap, _∙_, subst}
 use mathlib.Core.Logic.{_⊎_, inl, inr}
-use mathlib.Core.List.{List, flatten, flatMap}
+use mathlib.Core.List.{List, [], _∷_, flatten, flatMap}
 use Prim.Native.Nat.{ℕ, zero, suc, _*_, _≤_, _<_}
 use native.Mathlib.Omega.{arith}
 use lib.ListN.{length, getD}
+use Rattle.net.specs.Tests.{allBelow, every}
 use Rattle.net.specs.Net.{listBelow, after, Counts}
 use Rattle.net.proofs.Lists.{getD-listBelow}
 use Rattle.circuit.specs.Circuit.{Circuit, circuit, graph, NoLoop}
 use Rattle.circuit.specs.Checks.{checkRecords}
 use Rattle.circuit.specs.Machine.{machine}
 use Rattle.circuit.specs.Stimuli.{checkStimuli, stimuli}
-use Rattle.circuit.proofs.Tables.{Inside, circuit-inside}
+use Rattle.circuit.proofs.Tables.{Inside, circuit-inside, falling-no-loop}
 use Rattle.fact.specs.declared.Fact.{Fact}
 use Rattle.fact.specs.declared.Fact.the-variants.{Open}
 use Rattle.fact.specs.Fact.{factAt}
 use Rattle.fact.specs.Rule.{rule}
 use Rattle.fact.specs.Certificate.{initialStore, registers, rounds, certificate}
-use Rattle.fact.proofs.Cases.{cases-hold}
 use Rattle.fact.proofs.Certificate.{least-agree, certificate-least, rounds-counted, rounds-few}
 use Rattle.call.specs.Call.{circuitOf}
 use Rattle.certificate.specs.declared.Certified.the-variants as certified
@@ -31,28 +31,29 @@ use Rattle.guarantee.specs.Witness as witness
 use Rattle.guarantee.specs.Witness.{table, stimuli₁, stimuli₂, values₁, values₂, zeros, written}
 use Rattle.guarantee.proofs.TwoRuns.{two-runs-guaranteed}
 
--- ---- case A's table
+-- ---- the table
 
 abbrev c : Circuit
 c = circuitOf (zeros 8)
 
 inside : Inside c
 unfolding checkRecords flatten
-inside = circuit-inside table 7 refl
+inside = circuit-inside table 9 refl
 
+-- no row is a loop, by numbers that fall along every wire's uses
 no-loop : NoLoop c
-unfolding flatten
-no-loop = cases-hold .0 .2
+unfolding flatten circuit checkRecords allBelow every
+no-loop = falling-no-loop table 9 (0 ∷ 0 ∷ 0 ∷ 0 ∷ 2 ∷ 1 ∷ 1 ∷ []) refl tt
 
 -- the certificate's bytes hold the facts of the certificate
 facts-written : (v : ℕ) → v < length c → factAt witness.certificate v ≡ certificate c v
 unfolding flatten circuit listBelow certificate
 facts-written v below =
-    let same : listBelow (factAt witness.certificate) 7 ≡ listBelow (certificate c) 7 = refl in
-    let variable : v < 7 = below in
-    sym (getD-listBelow (factAt witness.certificate) 7 v Open variable)
+    let same : listBelow (factAt witness.certificate) 9 ≡ listBelow (certificate c) 9 = refl in
+    let variable : v < 9 = below in
+    sym (getD-listBelow (factAt witness.certificate) 9 v Open variable)
     ∙ ap (λ (fs : List Fact). getD fs v Open) same
-    ∙ getD-listBelow (certificate c) 7 v Open variable
+    ∙ getD-listBelow (certificate c) 9 v Open variable
 
 one-round : rounds c ≡ 1
 unfolding flatten circuit rounds
@@ -93,7 +94,7 @@ benched₂ =
       accepts = record { no-number = refl; values = refl };
     }
 
-alike-places : (i : ℕ) → i < 5 → BothTick stimuli₁ stimuli₂ (i * 8) ⊎ BothPoke table stimuli₁ stimuli₂ (i * 8)
+alike-places : (i : ℕ) → i < 6 → BothTick stimuli₁ stimuli₂ (i * 8) ⊎ BothPoke table stimuli₁ stimuli₂ (i * 8)
 unfolding flatten
 alike-places zero h = inr (record { pokes = (refl, refl); same-variable = refl; same-value = inl refl })
 alike-places (suc zero) h = inr (record { pokes = (refl, refl); same-variable = refl; same-value = inr (refl, refl) })
@@ -101,7 +102,9 @@ alike-places (suc (suc zero)) h = inl (refl, refl)
 alike-places (suc (suc (suc zero))) h =
     inr (record { pokes = (refl, refl); same-variable = refl; same-value = inr (refl, refl) })
 alike-places (suc (suc (suc (suc zero)))) h = inl (refl, refl)
-alike-places (suc (suc (suc (suc (suc i))))) h = absurd (omega arith)
+alike-places (suc (suc (suc (suc (suc zero))))) h =
+    inr (record { pokes = (refl, refl); same-variable = refl; same-value = inl refl })
+alike-places (suc (suc (suc (suc (suc (suc i)))))) h = absurd (omega arith)
 
 stimuli-alike : AlikeStimuli table stimuli₁ stimuli₂
 stimuli-alike = record { equally-long = refl; alike = alike-places }

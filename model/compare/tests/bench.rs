@@ -7,11 +7,16 @@ mod lent;
 
 use common::document_cases::document_cases;
 use common::enable_cases::enable_cases;
+use common::fixed_cases::fixed_cases;
+use common::fixed_pokes::FixedPokes;
 use common::grounds::{list_that_meets, sound_stimuli, stimulus_that_meets_only, table_that_meets};
 use common::hand_runs::hand_runs;
-use common::samples::{every_rule, one_of_each, samples, BOUNDARY_VALUES, ENABLED, REGISTER};
+use common::samples::{
+    every_rule, one_of_each, samples, BOUNDARY_VALUES, ENABLED, FIXED_N, FIXED_OPERAND, FREE_OPERAND,
+    REGISTER, SECRET_OPERAND, ZERO_OPERAND,
+};
 use common::shapes::{chain, layers, random_pair, register_chain, register_ring, turned};
-use common::tables::{damage, random_stimuli, random_table};
+use common::tables::{damage, pokes_of_fixed, random_stimuli, random_table};
 use common::{
     cases, enabled, fixed, free, operator, poke_bytes, register, secret, widened, Random, RecordBytes,
     Table, MOST_RECORDS, MOST_STIMULI, TICK,
@@ -64,11 +69,15 @@ fn runs_worked_by_hand() {
 }
 
 /// Holds the archive against the model on a table of any sort: with a list that every accepted table takes,
-/// on buffers of all lengths, and with none, with one that some take, and with two that none takes.
+/// on buffers of all lengths, and with none, with two more such lists, with one that some take, and with two
+/// that none takes. Of those that all take, one pokes the fixed inputs late, one early, and one not at all.
 fn compare_on_some_lists(table: &[u8]) {
     let poke = poke_bytes(0, 0);
-    compare_on_all_lengths(table, [TICK, TICK].as_flattened());
-    for list in [&[][..], &[poke, TICK], &[TICK, poke_bytes(65_535, 0)]] {
+    let pokes = pokes_of_fixed(&read_records(table).unwrap_or_default());
+    let early = [&pokes[..], &[TICK, TICK]].concat();
+    let late = [&[TICK], &early[..]].concat();
+    compare_on_all_lengths(table, late.as_flattened());
+    for list in [&[][..], &early, &[TICK, TICK], &[poke, TICK], &[TICK, poke_bytes(65_535, 0)]] {
         let _ = bench(table, list.as_flattened());
     }
     let _ = bench(table, &poke[..7]);
@@ -76,7 +85,7 @@ fn compare_on_some_lists(table: &[u8]) {
 
 #[test]
 fn cases_worked_by_hand() {
-    for case in document_cases().into_iter().chain(enable_cases()) {
+    for case in document_cases().into_iter().chain(enable_cases()).chain(fixed_cases()) {
         println!("case {}", case.name);
         compare_on_some_lists(&case.table);
     }
@@ -225,36 +234,47 @@ fn every_rule_at_every_width() {
     for w in 1..=32 {
         let table = every_rule(w);
         let count = BOUNDARY_VALUES.len();
-        let (free, secret) = (count as u16, count as u16 + 1);
         for (i, n) in BOUNDARY_VALUES.into_iter().enumerate() {
-            let other = BOUNDARY_VALUES[(i + 3) % count];
-            let list = [poke_bytes(free, n), TICK, poke_bytes(secret, n), poke_bytes(free, other), TICK];
+            let poke_free = |i: usize| poke_bytes(FREE_OPERAND, BOUNDARY_VALUES[i % count]);
+            let mut list = vec![poke_free(i), TICK, poke_bytes(SECRET_OPERAND, n), poke_free(i + 3), TICK];
+            // The fixed inputs are poked at each place in turn, and the last time not at all.
+            if i <= list.len() {
+                list.splice(i..i, [poke_bytes(FIXED_OPERAND, FIXED_N), poke_bytes(ZERO_OPERAND, 0)]);
+            }
             assert_eq!(bench(table.as_flattened(), list.as_flattened()), Ok(()));
         }
     }
 }
 
 /// Holds the archive against the model on so many random tables and lists, each on buffers of random lengths.
-/// Asserts that each of these grounds was met.
+/// Asserts that each of these grounds was met. Gives how the lists that are accepted poke fixed inputs.
 fn compare_pairs(
     random: &mut Random,
     pairs: usize,
     grounds: &[usize],
     pair: impl Fn(&mut Random) -> (Vec<u8>, Vec<u8>),
-) {
+) -> FixedPokes {
+    let mut pokes = FixedPokes::default();
     random_calls(random, pairs, grounds, |random| {
         let (table, list) = pair(random);
-        bench_on(&table, &list, asked(&table).random(random)).map(|()| 0)
+        bench_on(&table, &list, asked(&table).random(random))?;
+        pokes.count(&read_records(&table).unwrap(), &list);
+        Ok(0)
     });
+    pokes
 }
 
 #[test]
 fn small_pairs() {
     let mut random = Random::of_test("small pairs", 41);
-    compare_pairs(&mut random, cases(300_000), &[0, 3, 4, 11], |random| {
+    let pairs = cases(300_000);
+    let pokes = compare_pairs(&mut random, pairs, &[0, 3, 4, 11], |random| {
         let (n, length) = (1 + random.below(30), random.below(20));
         random_pair(random, n, length)
     });
+    if pairs >= 1000 {
+        pokes.assert_each(20);
+    }
 }
 
 #[test]
@@ -290,10 +310,11 @@ fn longest_lists() {
     });
 }
 
-/// What the archive answers on a table and a random list of so many stimuli, held against the model.
+/// What the archive answers on a table and so many random stimuli behind a poke of each fixed input, held
+/// against the model.
 fn bench_randomly(random: &mut Random, table: &Table, length: usize) -> Result<(), Refusal> {
     let records = read_records(table.as_flattened()).unwrap();
-    let list = random_stimuli(random, &records, length);
+    let list = [pokes_of_fixed(&records), random_stimuli(random, &records, length)].concat();
     bench(table.as_flattened(), list.as_flattened())
 }
 

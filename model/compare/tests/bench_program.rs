@@ -10,7 +10,7 @@ use common::hand_runs::hand_runs;
 use common::printed::printed_values;
 use common::samples::{one_of_each, samples, ENABLED, OPERATOR, REGISTER};
 use common::shapes::{chain, random_pair, register_ring};
-use common::tables::{damage, random_stimuli};
+use common::tables::{damage, pokes_of_fixed, random_stimuli};
 use common::{bench_longer, cases, constant, poke_bytes, Random, MOST_RECORDS, MOST_STIMULI, TICK};
 use model::read_records;
 use programs::{assert_complains, assert_prints, run, TABLES_AROUND_THE_LONGEST};
@@ -81,7 +81,9 @@ fn the_empty_table() {
 fn sample_tables() {
     let folder = Folder::of_test("sample tables");
     for table in samples() {
-        folder.assert_prints_answer(table.as_flattened(), &TICK.repeat(2));
+        let pokes = pokes_of_fixed(&read_records(table.as_flattened()).unwrap_or_default());
+        let list = [&[TICK], &pokes[..], &[TICK, TICK]].concat();
+        folder.assert_prints_answer(table.as_flattened(), list.as_flattened());
     }
 }
 

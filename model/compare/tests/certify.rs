@@ -7,6 +7,7 @@ mod lent;
 
 use common::document_cases::document_cases;
 use common::enable_cases::enable_cases;
+use common::fixed_cases::fixed_cases;
 use common::grounds::table_that_meets;
 use common::samples::{every_rule, one_of_each, samples, ENABLED, REGISTER};
 use common::shapes::{chain, layers, random_shape, register_chain, register_ring, turned};
@@ -48,7 +49,7 @@ fn compare_on_all_lengths(table: &[u8]) {
 
 #[test]
 fn cases_worked_by_hand() {
-    for case in document_cases().into_iter().chain(enable_cases()) {
+    for case in document_cases().into_iter().chain(enable_cases()).chain(fixed_cases()) {
         println!("case {}", case.name);
         compare_on_all_lengths(&case.table);
     }

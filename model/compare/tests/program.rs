@@ -7,6 +7,7 @@ mod programs;
 
 use common::document_cases::document_cases;
 use common::enable_cases::enable_cases;
+use common::fixed_cases::fixed_cases;
 use common::printed::printed_certificate;
 use common::samples::samples;
 use common::shapes::{chain, random_shape, register_ring};
@@ -50,7 +51,7 @@ fn assert_writes_certificate(table: &[u8], printed: &str) {
 
 #[test]
 fn cases_worked_by_hand() {
-    for case in document_cases().into_iter().chain(enable_cases()) {
+    for case in document_cases().into_iter().chain(enable_cases()).chain(fixed_cases()) {
         assert_eq!(output(&case.table), case.printed, "case {}", case.name);
         assert_writes_certificate(&case.table, case.printed);
     }

@@ -1,4 +1,4 @@
-//! Document 01's cases A to M, each with all that the program certify prints for it.
+//! Document 01's cases A to M, C as request S-3 has it, each with all that the program certify prints for it.
 
 use super::{constant, fixed, free, multiplexer, operator, register, secret, RecordBytes, Table};
 use model::Operator::{Add, Equal, ShiftLeft, Subtract, Xor};
@@ -37,7 +37,7 @@ pub fn case_a(record_1: RecordBytes) -> [RecordBytes; 7] {
 fn variations_of_a() -> Vec<Case> {
     let a = "rounds 1\n0 marked\n1 open\n2 always 5\n3 open\n4 open\n5 open\n6 marked\n";
     let b = "rounds 0\n0 marked\n1 always 0\n2 always 5\n3 always 0\n4 always 0\n5 always 5\n6 marked\n";
-    let c = "rounds 1\n0 marked\n1 always 1\n2 always 5\n3 open\n4 open\n5 open\n6 marked\n";
+    let c = "rounds 1\n0 marked\n1 open\n2 always 5\n3 open\n4 open\n5 open\n6 marked\n";
     let d = "rounds 1\n0 marked\n1 marked\n2 always 5\n3 marked\n4 marked\n5 marked\n6 marked\n";
     vec![
         case("A", case_a(free(1)).to_vec(), a),

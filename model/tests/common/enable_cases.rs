@@ -23,11 +23,15 @@ fn enables() -> Vec<Case> {
         enabled_by("0, secret", secret(8), fixed(8, 0), "rounds 0\n0 marked\n1 always 0\n2 always 7\n"),
         enabled_by("0, 8", other, fixed(1, 0), "rounds 0\n0 always 8\n1 always 0\n2 always 7\n"),
         enabled_by("3, free", free(8), constant(8, 3), "rounds 1\n0 open\n1 always 3\n2 open\n"),
-        enabled_by("3, secret", secret(8), fixed(8, 3), "rounds 1\n0 marked\n1 always 3\n2 marked\n"),
-        enabled_by("3, 23", same, fixed(8, 3), "rounds 0\n0 always 23\n1 always 3\n2 always 7\n"),
+        enabled_by("3, secret", secret(8), constant(8, 3), "rounds 1\n0 marked\n1 always 3\n2 marked\n"),
+        enabled_by("3, 23", same, constant(8, 3), "rounds 0\n0 always 23\n1 always 3\n2 always 7\n"),
         enabled_by("3, 8", other, constant(8, 3), "rounds 1\n0 always 8\n1 always 3\n2 open\n"),
         // The enable's remainder by 2^4 is 0, and the enable is not.
         enabled_by("16, 8", other, constant(8, 16), "rounds 1\n0 always 8\n1 always 16\n2 open\n"),
+        // A fixed enable with n 3 is 0 until it is poked, and open.
+        enabled_by("fixed, 23", same, fixed(8, 3), "rounds 0\n0 always 23\n1 open\n2 always 7\n"),
+        enabled_by("fixed, 8", other, fixed(8, 3), "rounds 1\n0 always 8\n1 open\n2 open\n"),
+        enabled_by("fixed, secret", secret(8), fixed(8, 3), "rounds 1\n0 marked\n1 open\n2 marked\n"),
         enabled_by("free, 23", same, free(1), "rounds 0\n0 always 23\n1 open\n2 always 7\n"),
         enabled_by("free, 8", other, free(1), "rounds 1\n0 always 8\n1 open\n2 open\n"),
         enabled_by("free, free", free(8), free(1), "rounds 1\n0 open\n1 open\n2 open\n"),

@@ -1,9 +1,9 @@
-//! Bench runs worked by hand: document 000's figure 1, case A, two registers that feed each other, and
-//! registers with an enable.
+//! Bench runs worked by hand: document 000's figure 1, cases A to C, two registers that feed each other,
+//! registers with an enable, and fixed inputs that are poked early, late, twice and not at all.
 
 use super::document_cases::case_a;
 use super::{
-    constant, enabled, fixed, free, multiplexer, operator, poke_bytes, register, RecordBytes,
+    constant, enabled, fixed, free, multiplexer, operator, poke_bytes, register, secret, RecordBytes,
     StimulusBytes, TICK,
 };
 use model::Operator::{Add, Equal, Less, Subtract};
@@ -20,7 +20,8 @@ pub struct Run {
 pub fn hand_runs() -> Vec<Run> {
     let of_registers = [accumulator(), case_a_counting(), exchange()];
     let with_an_enable = [hold_and_load(), enable_before_the_tick(), own_enable(), enable_each_other()];
-    of_registers.into_iter().chain(with_an_enable).flatten().collect()
+    let of_fixed_inputs = [case_b_standing(), case_c_counting(), not_poked(), early(), late(), twice()];
+    of_registers.into_iter().chain(with_an_enable).chain(of_fixed_inputs).flatten().collect()
 }
 
 /// The runs that these steps make, each a stimulus and the values after it: with none, the first, and so on.
@@ -91,12 +92,12 @@ fn exchange() -> Vec<Run> {
         operator(Subtract, 4, 1, 0),
     ];
     let steps = [
-        (TICK, [9, 5, 3, 0, 12]),
+        (TICK, [0, 5, 3, 0, 5]),
         (poke_bytes(0, 9), [9, 5, 3, 0, 12]),
         (TICK, [9, 3, 5, 1, 10]),
         (TICK, [9, 5, 3, 0, 12]),
     ];
-    runs("exchange", table, [9, 19, 5, 0, 10], &steps)
+    runs("exchange", table, [0, 19, 5, 0, 3], &steps)
 }
 
 /// A register of width 4 with an enable of width 8, which holds over several ticks, takes its data narrowed,
@@ -171,4 +172,103 @@ fn enable_each_other() -> Vec<Run> {
         (TICK, [9, 0, 0]),
     ];
     runs("enable each other", table, [0, 1, 0], &steps)
+}
+
+/// Case B: the register never counts, whether the fixed input is poked or not.
+fn case_b_standing() -> Vec<Run> {
+    let values = [0, 0, 5, 0, 0, 5, 0];
+    let steps = [TICK, poke_bytes(1, 0), TICK].map(|stimulus| (stimulus, values));
+    runs("case B", case_a(fixed(1, 0)), values, &steps)
+}
+
+/// Case C: the register counts from the poke of the fixed input on.
+fn case_c_counting() -> Vec<Run> {
+    let steps = [
+        (TICK, [0, 0, 5, 0, 0, 5, 0]),
+        (TICK, [0, 0, 5, 0, 0, 5, 0]),
+        (poke_bytes(1, 1), [0, 1, 5, 0, 5, 5, 0]),
+        (TICK, [0, 1, 5, 5, 10, 10, 0]),
+        (poke_bytes(1, 1), [0, 1, 5, 5, 10, 10, 0]),
+        (TICK, [0, 1, 5, 10, 15, 15, 0]),
+    ];
+    runs("case C", case_a(fixed(1, 1)), [0, 0, 5, 0, 0, 5, 0], &steps)
+}
+
+/// The inputs of `fixed_inputs`, of which two are fixed, to 200 and to 0.
+const TIED: u16 = 0;
+const TIED_TO_0: u16 = 1;
+const FREE: u16 = 2;
+const SECRET: u16 = 3;
+
+/// Inputs of each sort. A sum and a choice that follow a poke. Registers that take the fixed inputs, registers
+/// with these as enables, and one that has the n of the fixed input that it takes at power-on.
+fn fixed_inputs() -> [RecordBytes; 11] {
+    [
+        fixed(8, 200),
+        fixed(8, 0),
+        free(8),
+        secret(8),
+        operator(Add, 8, TIED, 6),     // 4
+        multiplexer(8, TIED, 6, FREE), // 5
+        register(8, 9, TIED),          // 6
+        register(8, 7, TIED_TO_0),     // 7
+        enabled(8, 5, 6, TIED),        // 8
+        enabled(8, 6, 6, TIED_TO_0),   // 9
+        register(8, 200, TIED),        // 10
+    ]
+}
+
+/// At power-on every input holds 0 and each register its power-on value.
+const AT_POWER_ON: [u32; 11] = [0, 0, 0, 0, 9, 0, 9, 7, 5, 6, 200];
+
+/// Fixed inputs that are not poked hold 0 over ticks and over pokes of other inputs, and registers take it.
+fn not_poked() -> Vec<Run> {
+    let steps = [
+        (poke_bytes(FREE, 17), [0, 0, 17, 0, 9, 17, 9, 7, 5, 6, 200]),
+        (TICK, [0, 0, 17, 0, 0, 17, 0, 0, 5, 6, 0]),
+        (poke_bytes(SECRET, 34), [0, 0, 17, 34, 0, 17, 0, 0, 5, 6, 0]),
+        (TICK, [0, 0, 17, 34, 0, 17, 0, 0, 5, 6, 0]),
+    ];
+    runs("fixed inputs, not poked", fixed_inputs(), AT_POWER_ON, &steps)
+}
+
+/// Fixed inputs that are poked before the first tick: no register takes a 0 from the first of them.
+fn early() -> Vec<Run> {
+    let steps = [
+        (poke_bytes(TIED, 200), [200, 0, 0, 0, 209, 9, 9, 7, 5, 6, 200]),
+        (poke_bytes(TIED_TO_0, 0), [200, 0, 0, 0, 209, 9, 9, 7, 5, 6, 200]),
+        (TICK, [200, 0, 0, 0, 144, 200, 200, 0, 9, 6, 200]),
+        (TICK, [200, 0, 0, 0, 144, 200, 200, 0, 200, 6, 200]),
+    ];
+    runs("fixed inputs, poked early", fixed_inputs(), AT_POWER_ON, &steps)
+}
+
+/// Fixed inputs that are poked after ticks: until then the registers that take them have taken 0, and those
+/// with one as enable have held.
+fn late() -> Vec<Run> {
+    let steps = [
+        (TICK, [0, 0, 0, 0, 0, 0, 0, 0, 5, 6, 0]),
+        (TICK, [0, 0, 0, 0, 0, 0, 0, 0, 5, 6, 0]),
+        (poke_bytes(TIED, 200), [200, 0, 0, 0, 200, 0, 0, 0, 5, 6, 0]),
+        (TICK, [200, 0, 0, 0, 144, 200, 200, 0, 0, 6, 200]),
+        (poke_bytes(TIED_TO_0, 0), [200, 0, 0, 0, 144, 200, 200, 0, 0, 6, 200]),
+        (TICK, [200, 0, 0, 0, 144, 200, 200, 0, 200, 6, 200]),
+    ];
+    runs("fixed inputs, poked late", fixed_inputs(), AT_POWER_ON, &steps)
+}
+
+/// Fixed inputs that are poked again, at once and after a tick, which changes nothing.
+fn twice() -> Vec<Run> {
+    let poked = [200, 0, 0, 0, 209, 9, 9, 7, 5, 6, 200];
+    let ticked = [200, 0, 0, 0, 144, 200, 200, 0, 9, 6, 200];
+    let steps = [
+        (poke_bytes(TIED_TO_0, 0), AT_POWER_ON),
+        (poke_bytes(TIED, 200), poked),
+        (poke_bytes(TIED, 200), poked),
+        (TICK, ticked),
+        (poke_bytes(TIED_TO_0, 0), ticked),
+        (poke_bytes(TIED, 200), ticked),
+        (TICK, [200, 0, 0, 0, 144, 200, 200, 0, 200, 6, 200]),
+    ];
+    runs("fixed inputs, poked twice", fixed_inputs(), AT_POWER_ON, &steps)
 }

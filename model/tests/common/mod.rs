@@ -1,14 +1,18 @@
 //! What the tests share: records and stimuli from their fields, a seeded generator of random numbers, and
 //! the two calls on tables made on buffers whose contents are checked afterwards by document 01's clauses.
 //! Random tables and lists come from `tables`, and tables of one shape from `shapes`; document 01's cases
-//! are in `document_cases`, those of registers with an enable in `enable_cases`, further tables in `samples`,
-//! what meets a set of grounds in `grounds`, and bench runs in `hand_runs`. `orders` has orders and the call
-//! for a bill, `printed` the lines that the programs print, and `two_runs` tries demand 3 on any two calls.
+//! are in `document_cases`, those of registers with an enable in `enable_cases`, those of fixed inputs in
+//! `fixed_cases`, further tables in `samples`, what meets a set of grounds in `grounds`, and bench runs in
+//! `hand_runs`. `orders` has orders and the call for a bill, `printed` the lines that the programs print, and
+//! `two_runs` tries demand 3 on any two calls. `times` counts how often something occurs, and `fixed_pokes`
+//! how often lists poke fixed inputs early, late, twice or not at all.
 
 #![allow(dead_code)] // each test file uses a part
 
 pub mod document_cases;
 pub mod enable_cases;
+pub mod fixed_cases;
+pub mod fixed_pokes;
 pub mod grounds;
 pub mod hand_runs;
 pub mod orders;
@@ -16,6 +20,7 @@ pub mod printed;
 pub mod samples;
 pub mod shapes;
 pub mod tables;
+pub mod times;
 pub mod two_runs;
 
 use model::{bench, certify, is_loop, Fact, Operator, Refusal};
@@ -46,7 +51,7 @@ pub fn record(kind: u8, width: u8, choice: u8, variables: [u16; 3], n: u32) -> R
     bytes
 }
 
-/// A fixed input of width w with value n.
+/// A fixed input of width w with value n, which it holds once it is poked.
 pub fn fixed(w: u8, n: u32) -> RecordBytes {
     record(0, w, 0, [0; 3], n)
 }

@@ -40,11 +40,19 @@ pub const ENABLED: usize = 7;
 /// Boundary values of the rules, the shifts' among them.
 pub const BOUNDARY_VALUES: [u32; 7] = [0, 1, 5, 31, 32, 1 << 31, u32::MAX];
 
-/// Every rule on every choice of operands, with results of width w. The operands are a fixed input for each
-/// of the boundary values, then a free and a secret one.
+/// The places of the inputs among the operands of `every_rule`, behind the constants, and the n of the first.
+pub const FIXED_OPERAND: u16 = BOUNDARY_VALUES.len() as u16;
+pub const ZERO_OPERAND: u16 = FIXED_OPERAND + 1;
+pub const FREE_OPERAND: u16 = FIXED_OPERAND + 2;
+pub const SECRET_OPERAND: u16 = FIXED_OPERAND + 3;
+pub const FIXED_N: u32 = 5;
+
+/// Every rule on every choice of operands, with results of width w. The operands are a constant for each of
+/// the boundary values, then inputs: one fixed to a number, one fixed to 0, a free and a secret one.
 pub fn every_rule(w: u8) -> Table {
-    let inputs = [&BOUNDARY_VALUES.map(|n| fixed(32, n))[..], &[free(32), secret(32)]].concat();
-    let all = 0..inputs.len() as u16;
+    let inputs = [fixed(32, FIXED_N), fixed(32, 0), free(32), secret(32)];
+    let operands = [&BOUNDARY_VALUES.map(|n| constant(32, n))[..], &inputs].concat();
+    let all = 0..operands.len() as u16;
     let pairs: Vec<(u16, u16)> = all.clone().flat_map(|a| all.clone().map(move |b| (a, b))).collect();
     let operators = Operator::BY_CODE.into_iter();
     let operators = operators.flat_map(|code| pairs.iter().map(move |&(a, b)| operator(code, w, a, b)));
@@ -53,7 +61,7 @@ pub fn every_rule(w: u8) -> Table {
     let registers = all.flat_map(|a| power_ons.map(|n| register(w, n, a)));
     let with_enables = pairs.iter().flat_map(|&(a, b)| power_ons.map(|n| enabled(w, n, a, b)));
     let records: Table = operators.chain(multiplexers).chain(registers).chain(with_enables).collect();
-    [inputs, records].concat()
+    [operands, records].concat()
 }
 
 /// Every sample.

@@ -16,6 +16,9 @@ const WIRES: Mixture = [1, 1, 30, 30, 1, 1];
 /// The kinds of a chain of registers, with a wire here and there.
 const REGISTERS: Mixture = [0, 0, 1, 1, 6, 4];
 
+/// The kinds of a record that has nothing to use: inputs, and constants.
+const WITHOUT_USES: Mixture = [2, 1, 0, 0, 0, 0];
+
 /// The fewest records of a ring: three, and one register.
 const LEAST_RING: usize = 4;
 
@@ -93,8 +96,8 @@ pub fn ring(n: usize, of: impl FnMut(u16) -> RecordBytes) -> Table {
     start.into_iter().chain((2..last).map(of)).collect()
 }
 
-/// A table whose record i is of one of these kinds and uses those in the window of i, or is an input where
-/// there are none. A register now and then uses any variable.
+/// A table whose record i is of one of these kinds and uses those in the window of i, or is an input or a
+/// constant where there are none. A register now and then uses any variable.
 fn shaped(
     random: &mut Random,
     n: usize,
@@ -104,7 +107,7 @@ fn shaped(
     let widths = random.pick(&WIDTHS);
     let mut record = |i: usize| -> RecordBytes {
         let before: Vec<usize> = window(i).collect();
-        let kind = if before.is_empty() { Kind::Input } else { random_kind(random, mixture) };
+        let kind = random_kind(random, if before.is_empty() { &WITHOUT_USES } else { mixture });
         let uses = [0; 3].map(|_| {
             let any = kind.is_register() && random.percent(3);
             random_use(random, i, &before, n, any)

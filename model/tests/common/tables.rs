@@ -10,9 +10,9 @@ use model::{remainder, InputKind, Kind, Operator, Record};
 /// register with an enable.
 pub(super) type Mixture = [usize; 6];
 
-/// The mixtures of a random table.
+/// The mixtures of a random table. Each has constants, as no input is always a number other than 0.
 pub(super) const MIXTURES: [Mixture; 5] =
-    [[3, 1, 4, 4, 2, 2], [2, 1, 6, 2, 1, 1], [1, 1, 1, 1, 3, 3], [2, 2, 2, 6, 1, 3], [4, 1, 3, 3, 0, 0]];
+    [[3, 3, 4, 4, 2, 2], [2, 2, 6, 2, 1, 1], [1, 1, 1, 1, 3, 3], [2, 3, 2, 6, 1, 3], [4, 3, 3, 3, 0, 0]];
 
 /// The widths of a random table.
 pub(super) const WIDTHS: [&[u8]; 4] = [&[1], &[1, 2, 3], &[1, 8, 16], &[1, 2, 7, 8, 31, 32]];
@@ -91,12 +91,22 @@ pub fn random_number(random: &mut Random, w: u32) -> u32 {
 pub(super) fn random_record(random: &mut Random, kind: Kind, w: u8, uses: [Option<u16>; 3]) -> RecordBytes {
     let n = random_number(random, u32::from(w));
     match (kind, uses) {
-        (Kind::Input, _) => random.pick(&[fixed(w, n), free(w), secret(w)]),
+        (Kind::Input, _) => random_input(random, w, n),
         (Kind::Operator, [Some(a), Some(b), _]) => operator(random.pick(&Operator::BY_CODE), w, a, b),
         (Kind::Multiplexer, [Some(a), Some(b), Some(c)]) => multiplexer(w, a, b, c),
         (Kind::Register, [Some(a), ..]) => register(w, n, a),
         (Kind::Enabled, [Some(a), Some(b), _]) => enabled(w, n, a, b),
         _ => constant(w, n),
+    }
+}
+
+/// An input of width w. Fixed ones often have an n of 0, which alone makes their fact a number.
+fn random_input(random: &mut Random, w: u8, n: u32) -> RecordBytes {
+    match random.below(10) {
+        0..3 => fixed(w, n),
+        3 => fixed(w, 0),
+        4..6 => free(w),
+        _ => secret(w),
     }
 }
 
@@ -135,6 +145,15 @@ fn random_poked(random: &mut Random, record: &Record) -> u32 {
         Record::Input { kind: InputKind::Fixed(n), .. } => n,
         _ => random_number(random, record.width()),
     }
+}
+
+/// A poke of each fixed input with its n.
+pub fn pokes_of_fixed(records: &[Record]) -> Vec<StimulusBytes> {
+    let poke = |(i, record): (usize, &Record)| match *record {
+        Record::Input { kind: InputKind::Fixed(n), .. } => Some(poke_bytes(i as u16, n)),
+        _ => None,
+    };
+    records.iter().enumerate().filter_map(poke).collect()
 }
 
 /// The list with other values poked into secret inputs, and otherwise the same.

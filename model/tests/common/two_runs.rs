@@ -1,11 +1,13 @@
 //! Demand 3 tried on any two calls: after two lists of stimuli that differ only in values poked into secret
 //! inputs, every variable called always or open holds the same value in both runs, and one called always
-//! holds the certified number. What occurred is counted, so that a test can't pass where little does.
+//! holds the certified number. Fixed inputs are poked at the same places of both lists. What occurred is
+//! counted, so that a test can't pass where little does.
 
+use super::fixed_pokes::{is_poked_late, FixedPokes};
 use super::shapes::table_or_shape;
 use super::tables::{other_secrets, random_stimuli};
 use super::{Random, RecordBytes};
-use model::{read_records, Fact, Record};
+use model::{read_records, Fact, InputKind, Record};
 
 /// The calls that demand 3 is about, each on a table, and on stimuli, that it accepts.
 pub struct Calls {
@@ -34,6 +36,8 @@ pub struct TwoRuns {
     pub records: Vec<Record>,
     pub values: [Vec<u32>; 2],
     facts: Vec<Fact>,
+    /// One of the lists.
+    list: Vec<u8>,
     lists_differ: bool,
 }
 
@@ -45,7 +49,8 @@ impl TwoRuns {
         let list = random_stimuli(random, &records, length);
         let other = other_secrets(random, &records, &list);
         let values = [&list, &other].map(|list| (calls.bench)(table, list.as_flattened()));
-        let runs = TwoRuns { records, values, facts: (calls.certify)(table), lists_differ: list != other };
+        let (facts, lists_differ) = ((calls.certify)(table), list != other);
+        let runs = TwoRuns { records, values, facts, list: list.as_flattened().to_vec(), lists_differ };
         runs.assert_guarded();
         runs
     }
@@ -71,6 +76,18 @@ impl TwoRuns {
     /// Whether the variable holds different values in the two runs.
     fn differs(&self, i: usize) -> bool {
         self.values[0][i] != self.values[1][i]
+    }
+
+    /// Whether the variable is a fixed input, with an n other than 0, that both lists poke late.
+    fn is_tied_late(&self, i: usize) -> bool {
+        let Record::Input { kind: InputKind::Fixed(n), .. } = self.records[i] else { return false };
+        n != 0 && is_poked_late(&self.list, i)
+    }
+
+    /// Whether the variable is always a number other than 0, and no constant.
+    fn is_worked_out_not_0(&self, i: usize) -> bool {
+        let is_constant = matches!(self.records[i], Record::Constant { .. });
+        !is_constant && matches!(self.facts[i], Fact::Always(n) if n != 0)
     }
 
     /// Whether the variable is a multiplexer with a marked control.
@@ -124,14 +141,18 @@ struct Seen {
     always_under_marked_control: usize,
     /// A register with a marked enable is always some number.
     always_under_marked_enable: usize,
+    /// The lists differ, and both poke a fixed input, with an n other than 0, late.
+    tied_late: usize,
+    fixed: FixedPokes,
     variables: Called,
 }
 
-/// How many wires and registers are called by each fact, how many are marked by their enable alone, and how
-/// many marked ones differ in the two runs.
+/// How many wires and registers are called by each fact, how many but the constants are always a number other
+/// than 0, how many are marked by their enable alone, and how many marked ones differ in the two runs.
 #[derive(Debug, Default)]
 struct Called {
     always: usize,
+    always_not_0: usize,
     open: usize,
     marked: usize,
     marked_differ: usize,
@@ -163,7 +184,11 @@ impl Seen {
         self.open += usize::from(runs.lists_differ && open > 0);
         self.always_under_marked_control += usize::from(under_marked_control > 0);
         self.always_under_marked_enable += usize::from(under_marked_enable > 0);
+        let tied_late = (0..runs.records.len()).any(|i| runs.is_tied_late(i));
+        self.tied_late += usize::from(runs.lists_differ && tied_late);
+        self.fixed.count(&runs.records, &runs.list);
         self.variables.always += runs.count(always);
+        self.variables.always_not_0 += runs.count(|i| runs.is_worked_out_not_0(i));
         self.variables.open += open;
         self.variables.marked += runs.count(|i| is(i, Fact::Marked));
         self.variables.marked_differ += marked_differ;
@@ -175,8 +200,7 @@ impl Seen {
     /// Asserts that each of these occurred in its share of the tables or variables, in percent.
     fn assert_fair(&self, tables: usize) {
         println!("of {tables}: {self:?}");
-        let Called { always, open, marked, marked_differ, marked_by_enable, marked_by_enable_differ } =
-            self.variables;
+        let Called { always, open, marked, marked_by_enable, .. } = self.variables;
         let variables = always + open + marked;
         let shares = [
             (self.registers, tables, 50),
@@ -189,14 +213,19 @@ impl Seen {
             (self.open, tables, 20),
             (self.always_under_marked_control, tables, 2),
             (self.always_under_marked_enable, tables, 2),
+            (self.tied_late, tables, 10),
             (always, variables, 10),
+            (self.variables.always_not_0, variables, 4),
             (open, variables, 10),
             (marked, variables, 10),
-            (marked_differ, variables, 3),
-            (marked_by_enable_differ, marked_by_enable, 1),
+            (self.variables.marked_differ, variables, 3),
+            (self.variables.marked_by_enable_differ, marked_by_enable, 1),
         ];
         for (i, (seen, all, percent)) in shares.into_iter().enumerate() {
             assert!(tables < 500 || seen * 100 >= all * percent, "share {i}: {self:?}");
+        }
+        if tables >= 500 {
+            self.fixed.assert_each(20);
         }
     }
 }

@@ -29,8 +29,7 @@ fn expected(Run { table, list }: &Run) -> String {
     (0..=list.len()).flat_map(lines).collect()
 }
 
-/// The module with its ports connected by their places, and the stimuli. A fixed input has its number from the
-/// start, and is poked with no other.
+/// The module with its ports connected by their places, and the stimuli. Every input is 0 until it is poked.
 fn testbench(Run { table, list }: &Run) -> String {
     let records = || table.records.iter().enumerate();
     let declared: String = records().map(|(i, record)| declaration(i, record)).collect();
@@ -62,9 +61,9 @@ endmodule
 
 /// What the testbench connects to a variable's port.
 fn declaration(i: usize, record: &Record) -> String {
-    let (width, n) = (record.width(), record.first_value());
+    let width = record.width();
     match record {
-        Record::Input { .. } => format!("    reg [{}:0] v{i} = {width}'d{n};\n", width - 1),
+        Record::Input { .. } => format!("    reg [{}:0] v{i} = {width}'d0;\n", width - 1),
         _ => format!("    wire [{}:0] v{i};\n", width - 1),
     }
 }

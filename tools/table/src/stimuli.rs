@@ -46,7 +46,7 @@ fn checked(table: &Table, bytes: &[u8; 8]) -> Result<Stimulus, String> {
         _ if variable >= table.records.len() => format!("there is no variable {variable}"),
         15 => format!("{} is no input", table.call(variable)),
         16 => format!("the value does not fit the width {}", table.records[variable].width()),
-        _ => format!("{} is fixed at another value", table.call(variable)),
+        _ => format!("{} is fixed and takes no value but its own", table.call(variable)),
     })
 }
 

@@ -1,4 +1,5 @@
-//! A table as a Verilog module: every variable is a port, inputs in, wires and registers out.
+//! A table as a Verilog module: every variable is a port, inputs in, wires and registers out. Who uses the
+//! module drives the inputs, each with 0 until it is set; a fixed one is set to its own number alone.
 //!
 //! Verilog works out an expression at the greatest width of its operands and its target, unsigned values
 //! extended by zeros, and cuts the result to the target: that is the remainder by 2^w. No width is above 32,
@@ -62,9 +63,7 @@ impl Names {
     /// The port of a variable, and a note on what an input's values can be.
     fn port(&self, i: usize, record: &Record) -> (String, String) {
         let (direction, note) = match *record {
-            Record::Input { kind: InputKind::Fixed(n), .. } => ("input wire", format!(" // fixed at {n}")),
-            Record::Input { kind: InputKind::Free, .. } => ("input wire", " // free".to_string()),
-            Record::Input { kind: InputKind::Secret, .. } => ("input wire", " // secret".to_string()),
+            Record::Input { kind, .. } => ("input wire", format!(" // {}", note(kind))),
             Record::Register { .. } | Record::Enabled { .. } => ("output reg", String::new()),
             _ => ("output wire", String::new()),
         };
@@ -103,6 +102,16 @@ impl Names {
     fn register(&self, target: &str, width: u32, power_on: u32, step: &str) -> String {
         let initial = format!("    initial {target} = {width}'d{power_on};\n");
         initial + &format!("    always @(posedge {}) {step};\n", self.clock)
+    }
+}
+
+/// What an input's values can be.
+fn note(kind: InputKind) -> String {
+    match kind {
+        InputKind::Fixed(0) => "fixed: always 0".to_string(),
+        InputKind::Fixed(n) => format!("fixed: 0 until set to {n}"),
+        InputKind::Free => "free".to_string(),
+        InputKind::Secret => "secret".to_string(),
     }
 }
 

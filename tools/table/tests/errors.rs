@@ -109,7 +109,10 @@ fn stimuli() {
     assert_eq!(stimuli_error("poke 3 1"), "there is no variable 3: the table has 3");
     assert_eq!(stimuli_error("poke five 5"), "five is no input");
     assert_eq!(stimuli_error("poke key 256"), "the value does not fit the width 8");
-    assert_eq!(stimuli_error("poke tied 8"), "tied is fixed at another value");
+    // 0 is what a fixed input holds until it is poked, and no value to poke it with.
+    for line in ["poke tied 8", "poke tied 0"] {
+        assert_eq!(stimuli_error(line), "tied is fixed and takes no value but its own");
+    }
 }
 
 #[test]

@@ -16,7 +16,7 @@ pub fn random_calls(
     random: &mut Random,
     calls: usize,
     grounds: &[usize],
-    call: impl Fn(&mut Random) -> Result<u32, Refusal>,
+    mut call: impl FnMut(&mut Random) -> Result<u32, Refusal>,
 ) {
     let mut answers = Answers::default();
     for _ in 0..calls {
