@@ -17,7 +17,7 @@ use Rattle.fact.specs.RequestCases.{caseEnableSecret, caseEnableItself, 
 use Rattle.fact.specs.RequestCases.{caseCounter, caseEnableBound, caseFixed, requestCases}
 
 -- numbers of A's variables that fall along every wire's uses
-abbrev ranksA : List ℕ
+abbrev pub ranksA : List ℕ
 ranksA = 0 ∷ 0 ∷ 0 ∷ 0 ∷ 2 ∷ 1 ∷ 1 ∷ []
 
 -- no row of a case's table is a loop, by numbers that fall

@@ -3,7 +3,7 @@
 -- Assumes nothing.
 use mathlib.Core.Path.{_≡_, refl, sym, ap, _∙_, subst}
 use mathlib.Core.Logic.{_⊎_, inl, inr}
-use mathlib.Core.List.{List, [], _∷_, flatten, flatMap}
+use mathlib.Core.List.{List, flatten, flatMap}
 use Prim.Native.Nat.{ℕ, zero, suc, _*_, _≤_, _<_}
 use native.Mathlib.Omega.{arith}
 use lib.ListN.{length, getD}
@@ -20,6 +20,7 @@ use Rattle.fact.specs.declared.Fact.the-variants.{Open}
 use Rattle.fact.specs.Fact.{factAt}
 use Rattle.fact.specs.Rule.{rule}
 use Rattle.fact.specs.Certificate.{initialStore, registers, rounds, certificate}
+use Rattle.fact.proofs.Cases.{ranksA}
 use Rattle.fact.proofs.Certificate.{least-agree, certificate-least, rounds-counted, rounds-few}
 use Rattle.call.specs.Call.{circuitOf}
 use Rattle.certificate.specs.declared.Certified.the-variants as certified
@@ -40,10 +41,10 @@ inside : Inside c
 unfolding checkRecords flatten
 inside = circuit-inside table 9 refl
 
--- no row is a loop, by numbers that fall along every wire's uses
+-- no row is a loop: the wires are case A's
 no-loop : NoLoop c
 unfolding flatten circuit checkRecords allBelow every
-no-loop = falling-no-loop table 9 (0 ∷ 0 ∷ 0 ∷ 0 ∷ 2 ∷ 1 ∷ 1 ∷ []) refl tt
+no-loop = falling-no-loop table 9 ranksA refl tt
 
 -- the certificate's bytes hold the facts of the certificate
 facts-written : (v : ℕ) → v < length c → factAt witness.certificate v ≡ certificate c v
