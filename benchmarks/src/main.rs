@@ -22,11 +22,11 @@ use before::Archive;
 use common::shapes::random_pair;
 use common::tables::damage;
 use common::{noise, Random};
-use measure::{medians, ratios, Call};
+use measure::{compared, medians, Call, Compared};
 use model::{read_records, Record, Refusal};
 use shapes::Shape;
 use std::cell::RefCell;
-use std::fmt::Debug;
+use std::fmt::{Debug, Display};
 use std::hint::black_box;
 
 type Certify = dyn Fn(&[u8], &mut [u8], &mut [u16]) -> certify::Answer;
@@ -60,12 +60,16 @@ fn main() {
     // The shapes come first, so that they do not depend on the random tables.
     let [for_certify, for_bench] = shapes::shapes(&mut random);
     compare_variants(&mut random);
-    print_head(archives.is_some());
+    print_head();
+    let mut held = Vec::new();
     for shape in for_certify {
-        certify_row(&shape, archives.as_ref());
+        held.push(certify_row(&shape, archives.as_ref()));
     }
     for shape in for_bench {
-        bench_row(&shape, archives.as_ref());
+        held.push(bench_row(&shape, archives.as_ref()));
+    }
+    if archives.is_some() {
+        print_before(held.into_iter().flatten());
     }
 }
 
@@ -149,8 +153,9 @@ fn counted(table: &[u8]) -> (usize, usize) {
     (count(Record::is_wire), count(Record::is_register))
 }
 
-/// All calls of a row work on the same buffers: where a buffer lies is part of a call's time.
-fn certify_row(shape: &Shape, archives: Option<&[Archive; 2]>) {
+/// Prints a shape's row, and gives the one that holds the two archives against each other. All calls of both
+/// work on the same buffers: where a buffer lies is part of a call's time.
+fn certify_row(shape: &Shape, archives: Option<&[Archive; 2]>) -> Option<String> {
     let rounds = certified(&shape.table, 0).expect("the shapes are accepted") as usize;
     let n = shape.table.len() / 16;
     let table = &shape.table;
@@ -162,15 +167,16 @@ fn certify_row(shape: &Shape, archives: Option<&[Archive; 2]>) {
         })
     };
     let times = medians(&mut CERTIFY.map(ready));
-    let before = archives.map(|archives| {
-        let calls = archives.each_ref().map(|archive| archive.certify);
-        before_cell(&certify_each(calls, table, 0), calls.map(ready))
-    });
     let (wires, registers) = counted(table);
-    print_row("certify", shape.name, n, rounds, (wires + registers) * (rounds + 1), &times, before);
+    let head = row_head("certify", shape.name, n, rounds);
+    print_row(&head, (wires + registers) * (rounds + 1), &times);
+    archives.map(|archives| {
+        let calls = archives.each_ref().map(|archive| archive.certify);
+        before_row(&head, &certify_each(calls, table, 0), calls.map(ready))
+    })
 }
 
-fn bench_row(shape: &Shape, archives: Option<&[Archive; 2]>) {
+fn bench_row(shape: &Shape, archives: Option<&[Archive; 2]>) -> Option<String> {
     benched(&shape.table, &shape.stimuli, 0).expect("the shapes are accepted");
     let n = shape.table.len() / 16;
     let (table, stimuli) = (&shape.table, &shape.stimuli);
@@ -182,68 +188,76 @@ fn bench_row(shape: &Shape, archives: Option<&[Archive; 2]>) {
         })
     };
     let times = medians(&mut BENCH.map(ready));
-    let before = archives.map(|archives| {
-        let calls = archives.each_ref().map(|archive| archive.bench);
-        before_cell(&bench_each(calls, table, stimuli, 0), calls.map(ready))
-    });
     let (wires, registers) = counted(table);
     let count = stimuli.len() / 8;
     let ticks = stimuli.as_chunks::<8>().0.iter().filter(|stimulus| stimulus[0] == 1).count();
-    print_row("bench", shape.name, n, count, wires * (count + 1) + registers * ticks, &times, before);
+    let head = row_head("bench", shape.name, n, count);
+    print_row(&head, wires * (count + 1) + registers * ticks, &times);
+    archives.map(|archives| {
+        let calls = archives.each_ref().map(|archive| archive.bench);
+        before_row(&head, &bench_each(calls, table, stimuli, 0), calls.map(ready))
+    })
 }
 
-/// The first archive's time by the second's, or nothing where that refuses what the first accepts.
-fn before_cell<A: PartialEq + Debug, T: PartialEq + Debug>(
+/// The two archives' times, with empty cells where the earlier one refuses what this one accepts.
+fn before_row<A: PartialEq + Debug, T: PartialEq + Debug>(
+    head: &str,
     made: &[Made<A, T>; 2],
     mut calls: [Call; 2],
 ) -> String {
     if made[1].0.is_err() {
-        return String::new();
+        return before_cells(head, [""; 3].map(String::from));
     }
     assert_alike(made);
-    let [lowest, _, middle, _, highest] = ratios(&mut calls);
-    format!("{middle:.2} ({lowest:.2} to {highest:.2})")
+    let Compared { quartiles, ratios: [lowest, _, middle, _, highest] } = compared(&mut calls);
+    let [after, before] = quartiles.map(|spread| {
+        let decimals = if spread[1] < 1000.0 { 4 } else { 2 };
+        let [low, median, high] = spread.map(|ns| format!("{:.decimals$}", ns / 1000.0));
+        format!("{median} ({low} to {high})")
+    });
+    before_cells(head, [before, after, format!("{middle:.2} ({lowest:.2} to {highest:.2})")])
 }
 
-fn print_head(before: bool) {
+fn before_cells(head: &str, [before, after, ratio]: [String; 3]) -> String {
+    format!("{head} {before:>32} | {after:>32} | {ratio:>19} |")
+}
+
+fn print_before(rows: impl Iterator<Item = String>) {
+    println!();
+    println!("before and after: us a call of the earlier archive and of this one, both as shared objects,");
+    println!("in turns: the median and the quartiles; after by before: the ratio of medians in five parts");
+    println!("of the turns, the middle one with the lowest and the highest");
+    println!();
+    println!("{}", before_cells(&titles(), ["before", "after", "after by before"].map(String::from)));
+    println!("|---|---|---:|---:|---:|---:|---:|");
+    rows.for_each(|row| println!("{row}"));
+}
+
+fn print_head() {
     println!("count: rounds of certify, stimuli of bench; ns each: the call's time by its evaluations");
     println!(
         "times are medians; a ratio is the archive's time by the variant's: below 1 the archive is faster"
     );
-    if before {
-        println!("before: the archive's time by the earlier one's, both as shared objects, in five parts");
-        println!("of the turns: the middle ratio, lowest and highest; empty where the earlier refuses");
-    }
     println!();
-    let [call, shape, n, count, us, ns] = ["call", "shape", "records", "count", "us a call", "ns each"];
+    let [us, ns] = ["us a call", "ns each"];
     let [bytes, chunks, structs, worklist] = ["bytes", "chunks", "structs", "worklist"];
-    let (title, line) = if before { (last_cell("before"), "---:|") } else { (String::new(), "") };
-    println!(
-        "| {call:<7} | {shape:<25} | {n:>7} | {count:>5} | {us:>9} | {ns:>7} \
-         | {bytes:>5} | {chunks:>6} | {structs:>7} | {worklist:>8} |{title}"
-    );
-    println!("|---|---|---:|---:|---:|---:|---:|---:|---:|---:|{line}");
+    let head = titles();
+    println!("{head} {us:>9} | {ns:>7} | {bytes:>5} | {chunks:>6} | {structs:>7} | {worklist:>8} |");
+    println!("|---|---|---:|---:|---:|---:|---:|---:|---:|---:|");
 }
 
-fn last_cell(text: &str) -> String {
-    format!(" {text:>19} |")
+/// The titles of the cells with which every row begins.
+fn titles() -> String {
+    row_head("call", "shape", "records", "count")
 }
 
-fn print_row(
-    call: &str,
-    name: &str,
-    n: usize,
-    count: usize,
-    evaluations: usize,
-    times: &[f64],
-    before: Option<String>,
-) {
+fn row_head(call: &str, name: &str, n: impl Display, count: impl Display) -> String {
+    format!("| {call:<7} | {name:<25} | {n:>7} | {count:>5} |")
+}
+
+fn print_row(head: &str, evaluations: usize, times: &[f64]) {
     let ratio = |i: usize| times.get(i).map_or(String::new(), |time| format!("{:.2}", times[0] / time));
     let (us, ns) = (times[0] / 1000.0, times[0] / evaluations as f64);
     let [bytes, chunks, structs, worklist] = [1, 2, 3, 4].map(ratio);
-    let before = before.map_or(String::new(), |text| last_cell(&text));
-    println!(
-        "| {call:<7} | {name:<25} | {n:>7} | {count:>5} | {us:>9.2} | {ns:>7.1} \
-         | {bytes:>5} | {chunks:>6} | {structs:>7} | {worklist:>8} |{before}"
-    );
+    println!("{head} {us:>9.2} | {ns:>7.1} | {bytes:>5} | {chunks:>6} | {structs:>7} | {worklist:>8} |");
 }

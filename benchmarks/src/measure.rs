@@ -19,8 +19,17 @@ pub fn medians(calls: &mut [Call]) -> Vec<f64> {
     samples(calls, LEAST_SAMPLES).iter().map(|taken| median(taken)).collect()
 }
 
-/// The first call's median time by the second's in each fifth of the turns, in rising order.
-pub fn ratios(calls: &mut [Call; 2]) -> [f64; 5] {
+/// Two calls that took turns.
+pub struct Compared {
+    /// Each call's quartiles in nanoseconds: the middle one is its median, and half of its turns lie between
+    /// the other two.
+    pub quartiles: [[f64; 3]; 2],
+    /// The first call's median time by the second's in each fifth of the turns, in rising order.
+    pub ratios: [f64; 5],
+}
+
+/// Has two calls take turns.
+pub fn compared(calls: &mut [Call; 2]) -> Compared {
     // Three turns in a fifth at least.
     let taken = samples(calls, 15);
     let turns = taken[0].len();
@@ -29,7 +38,8 @@ pub fn ratios(calls: &mut [Call; 2]) -> [f64; 5] {
         median(&taken[0][fifth.clone()]) / median(&taken[1][fifth])
     });
     ratios.sort_by(f64::total_cmp);
-    ratios
+    let quartiles = [0, 1].map(|i| [1, 2, 3].map(|quarters| in_order(&taken[i])[turns * quarters / 4]));
+    Compared { quartiles, ratios }
 }
 
 /// The times of each call in nanoseconds, one a turn.
@@ -64,7 +74,11 @@ fn repetitions(once: Duration) -> u32 {
 }
 
 fn median(taken: &[f64]) -> f64 {
+    in_order(taken)[taken.len() / 2]
+}
+
+fn in_order(taken: &[f64]) -> Vec<f64> {
     let mut taken = taken.to_vec();
     taken.sort_by(f64::total_cmp);
-    taken[taken.len() / 2]
+    taken
 }

@@ -8,6 +8,7 @@ ghost use Rattle.net.specs.Net.{step};
 ghost use Rattle.buffer.specs.Kept.{KeptOutside};
 ghost use Rattle.buffer.specs.Store.{numbers, Wrote, Stands, Holds, Moves};
 ghost use Rattle.circuit.specs.Reading.{fieldsAt};
+ghost use Rattle.circuit.specs.Powers.{Powers};
 ghost use Rattle.circuit.specs.Circuit.{circuit, graph};
 ghost use Rattle.fact.specs.Fact.{same, factOf, factAt};
 ghost use Rattle.fact.specs.Cells.{facts};
@@ -21,6 +22,7 @@ use crate::pass::register_fact;
 use crate::pass::settle;
 use circuit::number::wide;
 use circuit::number::wide16;
+use circuit::operator::PowerTable;
 use circuit::table::value_at;
 use fact::Fact;
 use fact::cell::byte;
@@ -66,8 +68,10 @@ pub fn stage(
     scratch: &mut [u16],
     first: usize,
     registers: usize,
+    powers: &PowerTable,
 ) -> bool
     requires { ⌜ Ready facts room (now t) n (now scratch) first registers (now cells) ⌝ }
+    requires { ⌜ Powers (now powers) ⌝ }
     ensures { λ _. ⌜ KeptOutside n (n + n) (now (scratch .entry)) (now (scratch .exit)) ⌝ }
     ensures { λ _. ⌜ Stands numbers n registers (staged (circuit (now (t .entry)) n) (factAt (now (cells .entry))))
         (now (scratch .exit)) ⌝ }
@@ -78,7 +82,7 @@ pub fn stage(
     let mut j: usize = 0;
     while j < registers {
         let v = wide(scratch[first + j]);
-        let f = register_fact(t, n, cells, v);
+        let f = register_fact(t, n, cells, v, powers);
         scratch[n + j] = wide16(byte(f));
         changed = either(differs(f, load(cells, v)), changed);
         j += 1;
@@ -124,9 +128,11 @@ pub fn run_rounds(
     wires: usize,
     registers: usize,
     cells: &mut [u8],
+    powers: &PowerTable,
 ) -> u32
     requires { ⌜ Ready facts room (now t) n (now scratch) wires registers (now cells) ⌝ }
     requires { ⌜ Stands facts 0 n (initialStore (circuit (now t) n)) (now cells) ⌝ }
+    requires { ⌜ Powers (now powers) ⌝ }
     ensures { λ _. ⌜ KeptOutside n (n + n) (now (scratch .entry)) (now (scratch .exit)) ⌝ }
     ensures { λ _. ⌜ Holds facts n (certificate (circuit (now (t .entry)) n))
         (now (cells .entry)) (now (cells .exit)) ⌝ }
@@ -134,12 +140,12 @@ pub fn run_rounds(
 {
     let mut count: u32 = 0;
     let answer = loop {
-        let changed = stage(t, n, cells, scratch, wires, registers);
+        let changed = stage(t, n, cells, scratch, wires, registers, powers);
         if !changed {
             break count;
         }
         commit(t, n, scratch, wires, registers, cells);
-        settle(t, n, scratch, wires, cells);
+        settle(t, n, scratch, wires, cells, powers);
         count += 1;
     };
     answer

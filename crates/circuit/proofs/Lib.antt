@@ -2,6 +2,7 @@ pub mod Bytes
 pub mod Passing
 pub mod Lookups
 pub mod Operators
+pub mod Powers
 pub mod Decoding
 pub mod Records
 pub mod Tables

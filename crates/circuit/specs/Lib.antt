@@ -1,6 +1,7 @@
 pub mod Number
 pub mod Refusal
 pub mod Operator
+pub mod Powers
 pub mod Record
 pub mod Reading
 pub mod Circuit

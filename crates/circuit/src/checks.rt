@@ -3,7 +3,9 @@ ghost use mathlib.Core.Path.{_≡_};
 ghost use mathlib.Core.List.{[], _∷_};
 ghost use Prim.Native.Nat.{_*_, _≤_};
 ghost use lib.ListN.{length};
+ghost use Rattle.circuit.specs.Powers.{Powers};
 ghost use Rattle.circuit.specs.Checks.{checkLength, checkOutput, checkScratch, atRecord, checkRecords, checkCall};
+use crate::operator::PowerTable;
 use crate::record::ReadRecord;
 use crate::record::fields_at;
 use crate::record::read_record;
@@ -54,13 +56,14 @@ fn at_record(read: ReadRecord, i: usize) -> Check
 }
 
 // Grounds 5 to 10 of the first n records.
-pub fn check_records(t: &[u8], n: usize) -> Check
+pub fn check_records(t: &[u8], n: usize, powers: &PowerTable) -> Check
     requires { ⌜ n * 16 ≤ length (now t) ⌝ }
+    requires { ⌜ Powers (now powers) ⌝ }
     ensures { λ r. ⌜ r ≡ checkRecords (now (t .entry)) n ⌝ }
 {
     let mut i: usize = 0;
     while i < n {
-        let read = read_record(fields_at(t, i * 16), n);
+        let read = read_record(fields_at(t, i * 16), n, powers);
         let ReadRecord::Read(_) = read else {
             return at_record(read, i);
         };
@@ -71,8 +74,16 @@ pub fn check_records(t: &[u8], n: usize) -> Check
 
 // Grounds 1 to 10 of a call on a table: what is lent of its output, of which `each` is asked a record, and of its
 // scratch, of which `room` is asked a record.
-pub fn check_call(t: &[u8], output: usize, each: usize, scratch: usize, room: usize) -> Check
+pub fn check_call(
+    t: &[u8],
+    output: usize,
+    each: usize,
+    scratch: usize,
+    room: usize,
+    powers: &PowerTable,
+) -> Check
     requires { ⌜ (each ≤ 256) × (room ≤ 256) ⌝ }
+    requires { ⌜ Powers (now powers) ⌝ }
     ensures { λ r. ⌜ r ≡ checkCall (now (t .entry)) (record { lent = output; each = each } ∷ [])
         (record { lent = scratch; each = room }) ⌝ }
 {
@@ -89,5 +100,5 @@ pub fn check_call(t: &[u8], output: usize, each: usize, scratch: usize, room: us
     let Check::Passed = worked else {
         return worked;
     };
-    check_records(t, n)
+    check_records(t, n, powers)
 }

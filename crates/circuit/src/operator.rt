@@ -2,6 +2,7 @@
 ghost use mathlib.Core.Path.{_≡_};
 ghost use Prim.Native.Nat.{ℕ, _%_, _^_, _≤_};
 ghost use Rattle.circuit.specs.Operator.{operatorCode, readOperator, apply, resultOfCode};
+ghost use Rattle.circuit.specs.Powers.{Powers};
 ghost use Rattle.circuit.specs.Machine as machine;
 
 // The operators in the order of their codes.
@@ -56,7 +57,7 @@ pub fn operator_code(op: Operator) -> u8
     }
 }
 
-// 2 to the width.
+// 2 to the width, by a shift.
 pub fn power(w: u8) -> u64
     requires { ⌜ w ≤ 32 ⌝ }
     ensures { λ r. ⌜ r ≡ 2 ^ w ⌝ }
@@ -64,12 +65,68 @@ pub fn power(w: u8) -> u64
     1u64 << w
 }
 
-// The remainder by 2 to the width.
-pub fn remainder(x: u32, w: u8) -> u32
+// A power of two for each number from 0 to 32: entry w is 2 to the w.
+pub type PowerTable = [u64; 33];
+
+// The powers themselves.
+const POWERS: PowerTable = [
+    1,
+    2,
+    4,
+    8,
+    16,
+    32,
+    64,
+    128,
+    256,
+    512,
+    1024,
+    2048,
+    4096,
+    8192,
+    16384,
+    32768,
+    65536,
+    131072,
+    262144,
+    524288,
+    1048576,
+    2097152,
+    4194304,
+    8388608,
+    16777216,
+    33554432,
+    67108864,
+    134217728,
+    268435456,
+    536870912,
+    1073741824,
+    2147483648,
+    4294967296,
+];
+
+// The table of powers, for a call to make once and to lend: a constant array is built on the stack wherever it is used.
+pub fn power_table() -> PowerTable
+    ensures { λ r. ⌜ Powers r ⌝ }
+{
+    POWERS
+}
+
+// 2 to the width, from the table.
+pub fn power_in(powers: &PowerTable, w: u8) -> u64
     requires { ⌜ w ≤ 32 ⌝ }
+    requires { ⌜ Powers (now powers) ⌝ }
+    ensures { λ r. ⌜ r ≡ 2 ^ w ⌝ }
+{
+    powers[w as usize]
+}
+
+// The remainder by the modulus, which is 2 to the width. The width is there for the contract alone.
+pub fn remainder(x: u32, w: u8, modulus: u64) -> u32
+    requires { ⌜ modulus ≡ 2 ^ w ⌝ }
     ensures { λ r. ⌜ r ≡ x % 2 ^ w ⌝ }
 {
-    (x as u64 % power(w)) as u32
+    (x as u64 & (modulus - 1)) as u32
 }
 
 // a times 2^b at 32 bits, and 0 from 32 on.
@@ -104,12 +161,13 @@ fn wrapped(code: u8, a: u32, b: u32) -> u32
     }
 }
 
-// The result of the operator of a code, at width w.
-pub fn evaluate(code: u8, w: u8, a: u32, b: u32) -> u32
+// The result of the operator of a code, at width w, whose power is the modulus.
+pub fn evaluate(code: u8, w: u8, a: u32, b: u32, modulus: u64) -> u32
     requires { ⌜ w ≤ 32 ⌝ }
+    requires { ⌜ modulus ≡ 2 ^ w ⌝ }
     ensures { λ r. ⌜ r ≡ resultOfCode code w a b ⌝ }
 {
-    remainder(wrapped(code, a, b), w)
+    remainder(wrapped(code, a, b), w, modulus)
 }
 
 // What a multiplexer takes: b where a is not 0, else c, at width w.
@@ -118,7 +176,7 @@ pub fn multiplex(w: u8, a: u32, b: u32, c: u32) -> u32
     ensures { λ r. ⌜ r ≡ machine.multiplex w a b c ⌝ }
 {
     if a == 0 {
-        return remainder(c, w);
+        return remainder(c, w, power(w));
     }
-    remainder(b, w)
+    remainder(b, w, power(w))
 }

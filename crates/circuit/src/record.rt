@@ -8,13 +8,15 @@ ghost use lib.ListN.{length};
 ghost use Rattle.net.specs.Tests.{every};
 ghost use Rattle.circuit.specs.Record.{uses};
 ghost use Rattle.circuit.specs.Operator.{operatorOf};
+ghost use Rattle.circuit.specs.Powers.{Powers};
 ghost use Rattle.circuit.specs.Machine.{initial};
 ghost use Rattle.circuit.specs.Reading as reading;
 use crate::number::u16_at;
 use crate::number::u32_at;
 use crate::operator::Operator;
+use crate::operator::PowerTable;
 use crate::operator::ReadOperator;
-use crate::operator::power;
+use crate::operator::power_in;
 use crate::operator::read_operator;
 use crate::refusal::Ground;
 
@@ -251,16 +253,17 @@ fn uses_below(r: Record, n: usize) -> bool
     }
 }
 
-// Whether a value does not fit the width w.
-pub fn too_wide(value: u32, w: u8) -> bool
-    requires { ⌜ w ≤ 32 ⌝ }
+// Whether a value does not fit the width w, whose power is the modulus. The width is there for the contract alone.
+pub fn too_wide(value: u32, w: u8, modulus: u64) -> bool
+    requires { ⌜ modulus ≡ 2 ^ w ⌝ }
     ensures { λ r. ⌜ r ≡ leb (2 ^ w) value ⌝ }
 {
-    power(w) <= value as u64
+    modulus <= value as u64
 }
 
 // The record that fields read as among n records, or the first of grounds 5 to 10 that holds.
-pub fn read_record(f: Fields, n: usize) -> ReadRecord
+pub fn read_record(f: Fields, n: usize, powers: &PowerTable) -> ReadRecord
+    requires { ⌜ Powers (now powers) ⌝ }
     ensures { λ r. ⌜ r ≡ reading.readRecord f n ⌝ }
 {
     let byte = f.kind;
@@ -280,7 +283,7 @@ pub fn read_record(f: Fields, n: usize) -> ReadRecord
     if !uses_below(r, n) {
         return ReadRecord::Refused(Ground::NoSuchVariable);
     }
-    if too_wide(f.value, f.width) {
+    if too_wide(f.value, f.width, power_in(powers, f.width)) {
         return ReadRecord::Refused(Ground::ValueTooWide);
     }
     ReadRecord::Read(r)

@@ -4,11 +4,14 @@ pub mod cell;
 
 ghost use mathlib.Core.Path.{_≡_};
 ghost use Prim.Native.Nat.{_≤_};
+ghost use Rattle.circuit.specs.Powers.{Powers};
 ghost use Rattle.fact.specs.Fact as facts;
 ghost use Rattle.fact.specs.Rule as rules;
 use circuit::operator::Operator;
+use circuit::operator::PowerTable;
 use circuit::operator::evaluate;
 use circuit::operator::operator_code;
+use circuit::operator::power_in;
 use circuit::operator::remainder;
 use circuit::record::InputKind;
 
@@ -23,13 +26,14 @@ impl Fact {
     // The highest fact.
     pub const MARKED: Fact = Fact::Marked;
 
-    // The fact at width w.
-    pub fn narrow(self, w: u8) -> Fact
+    // The fact at width w, whose power is in the table.
+    pub fn narrow(self, w: u8, powers: &PowerTable) -> Fact
         requires { ⌜ w ≤ 32 ⌝ }
+        requires { ⌜ Powers (now powers) ⌝ }
         ensures { λ r. ⌜ r ≡ facts.narrow w self ⌝ }
     {
         match self {
-            Fact::Always(n) => Fact::Always(remainder(n, w)),
+            Fact::Always(n) => Fact::Always(remainder(n, w, power_in(powers, w))),
             Fact::Open => Fact::Open,
             Fact::Marked => Fact::MARKED,
         }
@@ -78,13 +82,20 @@ pub fn input_rule(kind: InputKind) -> Fact
 }
 
 // An operator's rule, on the facts of A and B.
-pub fn operator_rule(op: Operator, w: u8, a: Fact, b: Fact) -> Fact
+pub fn operator_rule(op: Operator, w: u8, a: Fact, b: Fact, powers: &PowerTable) -> Fact
     requires { ⌜ w ≤ 32 ⌝ }
+    requires { ⌜ Powers (now powers) ⌝ }
     ensures { λ r. ⌜ r ≡ rules.operatorRule op w a b ⌝ }
 {
     match a {
         Fact::Always(x) => match b {
-            Fact::Always(y) => Fact::Always(evaluate(operator_code(op), w, x, y)),
+            Fact::Always(y) => Fact::Always(evaluate(
+                operator_code(op),
+                w,
+                x,
+                y,
+                power_in(powers, w),
+            )),
             Fact::Open => Fact::Open,
             Fact::Marked => Fact::MARKED,
         },
@@ -98,12 +109,13 @@ pub fn operator_rule(op: Operator, w: u8, a: Fact, b: Fact) -> Fact
 }
 
 // A multiplexer's rule, on the facts of A, B and C.
-pub fn multiplexer_rule(w: u8, a: Fact, b: Fact, c: Fact) -> Fact
+pub fn multiplexer_rule(w: u8, a: Fact, b: Fact, c: Fact, powers: &PowerTable) -> Fact
     requires { ⌜ w ≤ 32 ⌝ }
+    requires { ⌜ Powers (now powers) ⌝ }
     ensures { λ r. ⌜ r ≡ rules.multiplexerRule w a b c ⌝ }
 {
-    let narrow_b = b.narrow(w);
-    let narrow_c = c.narrow(w);
+    let narrow_b = b.narrow(w, powers);
+    let narrow_c = c.narrow(w, powers);
     match a {
         Fact::Always(n) => if n == 0 { narrow_c } else { narrow_b },
         Fact::Open => narrow_b.join(narrow_c),
@@ -112,19 +124,21 @@ pub fn multiplexer_rule(w: u8, a: Fact, b: Fact, c: Fact) -> Fact
 }
 
 // A register's rule, on the fact of A.
-pub fn register_rule(w: u8, n: u32, a: Fact) -> Fact
+pub fn register_rule(w: u8, n: u32, a: Fact, powers: &PowerTable) -> Fact
     requires { ⌜ w ≤ 32 ⌝ }
+    requires { ⌜ Powers (now powers) ⌝ }
     ensures { λ r. ⌜ r ≡ rules.registerRule w n a ⌝ }
 {
-    a.narrow(w).join(Fact::Always(n))
+    a.narrow(w, powers).join(Fact::Always(n))
 }
 
 // The rule of a register with an enable, on the facts of A and B.
-pub fn enabled_rule(w: u8, n: u32, a: Fact, b: Fact) -> Fact
+pub fn enabled_rule(w: u8, n: u32, a: Fact, b: Fact, powers: &PowerTable) -> Fact
     requires { ⌜ w ≤ 32 ⌝ }
+    requires { ⌜ Powers (now powers) ⌝ }
     ensures { λ r. ⌜ r ≡ rules.enabledRule w n a b ⌝ }
 {
-    let plain = register_rule(w, n, a);
+    let plain = register_rule(w, n, a, powers);
     match b {
         Fact::Always(m) => if m == 0 { Fact::Always(n) } else { plain },
         Fact::Open => plain,

@@ -14,6 +14,7 @@ ghost use Rattle.circuit.specs.Checks.{Checked};
 ghost use Rattle.circuit.specs.Stimuli.{fixedToOther, checkStimulus, checkStimuliFrom, checkStimuli};
 use crate::reader::read_stimulus;
 use circuit::number::wide;
+use circuit::operator::power;
 use circuit::record::InputKind;
 use circuit::record::Record;
 use circuit::record::too_wide;
@@ -40,7 +41,7 @@ fn check_value(w: u8, kind: InputKind, x: u32, i: usize) -> Check
     ensures { λ r. ⌜ r ≡ refuse ground.PokeTooWide i (leb (2 ^ w) x)
         (refuse ground.FixedInput i (fixedToOther (some kind) x) check.Passed) ⌝ }
 {
-    let unfit = too_wide(x, w);
+    let unfit = too_wide(x, w, power(w));
     let tied = fixed_to_other(kind, x);
     if unfit {
         return Check::Refused(Ground::PokeTooWide, i);

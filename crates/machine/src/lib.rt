@@ -16,6 +16,7 @@ use crate::checks::check_stimuli;
 use crate::pass::power_on;
 use crate::run::run;
 use circuit::checks::check_call;
+use circuit::operator::power_table;
 use circuit::refusal::Check;
 use circuit::refusal::Ground;
 use schedule::Outcome;
@@ -110,7 +111,8 @@ pub fn bench(table: &[u8], stimuli: &[u8], values: &mut [u32], scratch: &mut [u1
         (lent (now (table .entry)) (now (values .entry)) (now (scratch .entry)))
         (left (now (values .exit)) (now (scratch .exit))) r ⌝ }
 {
-    let check = check_call(table, values.len(), EACH, scratch.len(), ROOM);
+    let powers = power_table();
+    let check = check_call(table, values.len(), EACH, scratch.len(), ROOM, &powers);
     match check {
         Check::Refused(ground, place) => Benched::Refused(ground, place),
         Check::Passed => bench_checked(table, stimuli, values, scratch),

@@ -11,6 +11,7 @@ use circuit::number::wide;
 use circuit::operator::evaluate;
 use circuit::operator::multiplex;
 use circuit::operator::operator_code;
+use circuit::operator::power;
 use circuit::operator::remainder;
 use circuit::record::initial_value;
 use circuit::record::operator_of;
@@ -47,7 +48,8 @@ fn wire_value(t: &[u8], n: usize, values: &[u32], v: usize) -> u32
         1 => value_at(t, v),
         2 => {
             let code = operator_code(operator_of(code_at(t, v)));
-            evaluate(code, width_at(t, v), values[a_at(t, v)], values[b_at(t, v)])
+            let w = width_at(t, v);
+            evaluate(code, w, values[a_at(t, v)], values[b_at(t, v)], power(w))
         }
         _ => {
             multiplex(
@@ -67,7 +69,9 @@ pub fn register_value(t: &[u8], n: usize, values: &[u32], v: usize, enables: boo
     requires { ⌜ PlainUnless enables (now t) n ⌝ }
     ensures { λ r. ⌜ r ≡ definition.values (circuit (now (t .entry)) n) (state (now (values .entry))) v ⌝ }
 {
-    let taken = remainder(values[a_at(t, v)], width_at(t, v));
+    let x = values[a_at(t, v)];
+    let w = width_at(t, v);
+    let taken = remainder(x, w, power(w));
     if !enables {
         return taken;
     }

@@ -8,6 +8,7 @@ use circuit::checks::check_length;
 use circuit::checks::check_records;
 use circuit::number::u16_at;
 use circuit::number::wide;
+use circuit::operator::power_table;
 use circuit::refusal::Check;
 use libc::STDIN_FILENO;
 
@@ -54,7 +55,8 @@ fn read_table(t: &mut [u8]) -> bool {
 fn report(t: &[u8], n: usize)
     requires { ⌜ (n ≤ 4096) × (n * 16 ≤ length (now t)) ⌝ }
 {
-    let checked = check_records(t, n);
+    let powers = power_table();
+    let checked = check_records(t, n, &powers);
     let Check::Passed = checked else {
         print_refusal(checked);
         return;

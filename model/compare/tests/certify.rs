@@ -12,10 +12,10 @@ use common::grounds::table_that_meets;
 use common::samples::{every_rule, one_of_each, samples, ENABLED, REGISTER};
 use common::shapes::{chain, layers, random_shape, register_chain, register_ring, turned};
 use common::tables::{damage, random_table};
-use common::{cases, Random, MOST_RECORDS};
+use common::{cases, constant, enabled, fixed, register, Random, MOST_RECORDS};
 use lent::answers::random_calls;
 use lent::{held_to_model, Buffers, Inputs, Lengths};
-use model::Refusal;
+use model::{remainder, Refusal};
 
 /// How many bytes of a certificate ground 3 asks for a record.
 const BYTES_A_RECORD: usize = 8;
@@ -90,6 +90,23 @@ fn every_byte_of_a_record() {
 fn every_rule_at_every_width() {
     for w in 1..=32 {
         assert_eq!(certify(every_rule(w).as_flattened()), Ok(1));
+    }
+}
+
+#[test]
+fn values_around_every_width() {
+    for w in 1..=32 {
+        let largest = remainder(u32::MAX, u32::from(w));
+        let above = largest.wrapping_add(1);
+        for value in [0, 1, largest - 1, largest, above, above | 1, u32::MAX - 1, u32::MAX] {
+            let expected = if value > largest { Err(Refusal { ground: 10, place: 1 }) } else { Ok(0) };
+            for record in
+                [fixed(w, value), constant(w, value), register(w, value, 1), enabled(w, value, 1, 0)]
+            {
+                let table = [constant(1, 0), record];
+                assert_eq!(certify(table.as_flattened()), expected, "{value} at width {w}");
+            }
+        }
     }
 }
 

@@ -7,6 +7,9 @@ use borrow.Author.Needs.{needs}
 use Rattle.certificate.proofs.certify.Statement.{statement}
 use Rattle.certificate.proofs.certify.Tie as tie
 
+power-table-requires : tie.Need-power-table-requires
+power-table-requires c κs = search needs
+
 check-call-requires : tie.Need-check-call-requires
 check-call-requires c κs = search needs
 
@@ -17,8 +20,10 @@ enum-told : tie.Need-enum-told
 enum-told c = search needs
 
 certify-checked-requires : tie.Need-certify-checked-requires
-certify-checked-requires c κs =
-    sym (c .before .before .before .before .check-call .ensures) ∙ c .before .before .enum-told .given .1
+certify-checked-requires c κs = (
+  sym (c .before .before .before .before .before .check-call .ensures) ∙ c .before .before .before .enum-told .given .1,
+  search needs,
+)
 
 returns : tie.Need-returns
 returns c =
@@ -37,6 +42,7 @@ pub certify-spec : {M : Type 1} → statement M
 certify-spec =
     tie.close
     (tie.spec
+    power-table-requires
     check-call-requires
     enum-known-check
     enum-told

@@ -28,7 +28,7 @@ schedule-requires : tie.Need-schedule-requires
 schedule-requires c κs =
     let a = c .before .before .before .before in
     let l = lent (a .args .t .now) (a .args .cells .now) (a .args .scratch .now) in
-    (table-checked certifying l (a .pre), (omega arith, scratch-lent certifying l (a .pre)))
+    (table-checked certifying l (a .pre .0), (omega arith, scratch-lent certifying l (a .pre .0)))
 
 enum-known-outcome : tie.Need-enum-known-outcome
 enum-known-outcome c = search needs
@@ -40,7 +40,7 @@ certify-ordered-requires : tie.Need-certify-ordered-requires
 certify-ordered-requires c κs =
     let told = c .before .before .before in
     let a = told .before .before .before .before .before .before .before .before .before in
-    ready (a .args .t .now) (a .args .cells .now) (a .args .scratch .now) (a .pre) (order told)
+    (ready (a .args .t .now) (a .args .cells .now) (a .args .scratch .now) (a .pre .0) (order told), a .pre .1)
 
 same-length : tie.Need-same-length
 same-length c = search needs
@@ -54,7 +54,7 @@ returns c =
     let l : IsLoop (circuit (x .t .now) n) (n * room) (x .scratch .now)
     (told .before .before .before .before .schedule .last .1 .1 .1 .0) (told .outcome .given .0 .0) =
     rw (told .outcome .given .1) at (told .before .before .before .before .schedule .ensures) in
-    loop-shown certifying (lent (x .t .now) (x .cells .now) (x .scratch .now)) (a .pre) l
+    loop-shown certifying (lent (x .t .now) (x .cells .now) (x .scratch .now)) (a .pre .0) l
 
 same-length-2 : tie.Need-same-length-2
 same-length-2 c = search needs
@@ -67,7 +67,7 @@ returns-2 c =
     let told = c .before .before .before .before .before .before .before .before in
     let a = told .before .before .before .before .before .before .before .before .before in
     let d = c .before .before .before .before .certify-ordered in
-    certified (a .args .t .now) (a .args .cells .now) (a .args .scratch .now) (a .pre) (order told) (d .ensures .0)
+    certified (a .args .t .now) (a .args .cells .now) (a .args .scratch .now) (a .pre .0) (order told) (d .ensures .0)
     (d .ensures .1 .0) (d .ensures .1 .1)
 
 pub certify-checked-spec : {M : Type 1} → statement M

@@ -12,19 +12,21 @@ use Rattle.certificate.proofs.certify_ordered.Statement.{statement}
 use Rattle.certificate.proofs.certify_ordered.Tie as tie
 
 write-initial-requires : tie.Need-write-initial-requires
-write-initial-requires c κs = c .before .before .before .before .pre .wired .store
+write-initial-requires c κs = c .before .before .before .before .pre .0 .wired .store
 
 settle-requires : tie.Need-settle-requires
-settle-requires c κs =
-    wired-long (c .before .before .before .before .before .before .before .before .before .pre .wired)
-    (c .before .before .before .before .write-initial .ensures .kept .long)
+settle-requires c κs = (
+  wired-long (c .before .before .before .before .before .before .before .before .before .pre .0 .wired)
+      (c .before .before .before .before .write-initial .ensures .kept .long),
+  search needs,
+)
 
 run-rounds-requires : tie.Need-run-rounds-requires
 unfolding initialStore
 run-rounds-requires c κs =
     let first = c .before .before .before .before .before .before .before .before .before in
     let h = holds-moves (first .write-initial .ensures) (c .before .before .before .before .settle .ensures) in
-    (ready-long (first .before .before .before .before .before .pre) (h .kept .long), h .stands)
+    (ready-long (first .before .before .before .before .before .pre .0) (h .kept .long), (h .stands, search needs))
 
 mul-clear : tie.Need-mul-clear
 mul-clear c = search needs
@@ -44,7 +46,7 @@ returns c =
     let settled = run .before .before .before .before .before in
     let first = settled .before .before .before .before .before in
     let x = first .before .before .before .before .before .args in
-    let p = first .before .before .before .before .before .pre in
+    let p = first .before .before .before .before .before .pre .0 in
     let h = run .run-rounds .ensures .1 .0 in (
       run .run-rounds .ensures .1 .1,
       (

@@ -16,6 +16,9 @@ enum-known-b c = search needs
 operator-code-requires : tie.Need-operator-code-requires
 operator-code-requires c κs = search needs
 
+power-in-requires : tie.Need-power-in-requires
+power-in-requires c κs = search needs
+
 evaluate-requires : tie.Need-evaluate-requires
 evaluate-requires c κs = search needs
 
@@ -42,10 +45,12 @@ enum-told-7 c = search needs
 
 returns : tie.Need-returns
 returns c =
-    let op = c .before .before .before .before .before .before .before .before .args .op in
-    let w = c .before .before .before .before .before .before .before .before .args .w in
-    rw (c .before .before .before .before .before .before .a .given .1, c .before .before .before .b .given .1)
-    (ap Always (c .evaluate .ensures ∙ rw (c .before .operator-code .ensures) (result-of-code op w _ _)))
+    let second = c .before .before .before .before in
+    let first = second .before .before .before in
+    let x = first .before .before .args in
+    rw (first .a .given .1, second .b .given .1)
+    (ap Always
+    (c .evaluate .ensures ∙ rw (c .before .before .operator-code .ensures) (result-of-code (x .op) (x .w) _ _)))
 
 returns-2 : tie.Need-returns-2
 returns-2 c = search needs
@@ -72,6 +77,7 @@ operator-rule-spec =
     enum-known-a
     enum-known-b
     operator-code-requires
+    power-in-requires
     evaluate-requires
     enum-told
     enum-told-2

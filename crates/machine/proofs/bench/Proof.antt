@@ -7,6 +7,9 @@ use borrow.Author.Needs.{needs}
 use Rattle.machine.proofs.bench.Statement.{statement}
 use Rattle.machine.proofs.bench.Tie as tie
 
+power-table-requires : tie.Need-power-table-requires
+power-table-requires c κs = search needs
+
 check-call-requires : tie.Need-check-call-requires
 check-call-requires c κs = search needs
 
@@ -37,6 +40,7 @@ pub bench-spec : {M : Type 1} → statement M
 bench-spec =
     tie.close
     (tie.spec
+    power-table-requires
     check-call-requires
     enum-known-check
     enum-told

@@ -9,6 +9,9 @@ use Rattle.schedule_test.proofs.Fits.{shown-fits}
 use Rattle.schedule_test.proofs.report.Statement.{statement}
 use Rattle.schedule_test.proofs.report.Tie as tie
 
+power-table-requires : tie.Need-power-table-requires
+power-table-requires c κs = search needs
+
 check-records-requires : tie.Need-check-records-requires
 check-records-requires c κs = search needs
 
@@ -33,7 +36,7 @@ slice-aggregate-schedule c = search needs
 schedule-requires : tie.Need-schedule-requires
 schedule-requires c κs =
     let k = c .before .before .before in
-    let p = k .before .before .pre in (
+    let p = k .before .before .before .before .pre in (
       record {
         small = p .0;
         long = p .1;
@@ -48,7 +51,7 @@ slice-aggregate-print-outcome c = search needs
 print-outcome-requires : tie.Need-print-outcome-requires
 print-outcome-requires c κs =
     let k = c .before .before in
-    let a = k .before .before .before .before .before .before in
+    let a = k .before .before .before .before .before .before .before .before in
     let n = a .args .n in
     shown-fits (circuit (a .args .t .now) n) (2 * n) _ _ (k .schedule .result) (k .schedule .ensures)
 
@@ -59,6 +62,7 @@ pub report-spec : {M : Type 1} → statement M
 report-spec =
     tie.close
     (tie.spec
+    power-table-requires
     check-records-requires
     enum-told
     enum-told-2

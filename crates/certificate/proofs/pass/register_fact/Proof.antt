@@ -13,7 +13,7 @@ use Rattle.certificate.proofs.pass.register_fact.Tie as tie
 here : (c : tie.After-kind-at) → let x = c .before .before .before .args in RegisterHere (x .t .now) (x .n) (x .v)
 here c =
     let x = c .before .before .before .args in
-    let p = c .before .before .before .pre in
+    let p = c .before .before .before .pre .0 in
     register-here (x .t .now) (x .n) (x .v) (p .below) (p .store .table .valid) (p .is)
 
 kind-at-requires : tie.Need-kind-at-requires
@@ -32,12 +32,14 @@ load-requires : tie.Need-load-requires
 load-requires c κs = omega (arith, here (c .before .before .before .before) .a-below, c .a-at .ensures)
 
 register-rule-requires : tie.Need-register-rule-requires
-register-rule-requires c κs =
-    omega (
-      arith,
-      here (c .before .before .before .before .before) .width-most,
-      c .before .before .before .width-at .ensures,
-    )
+register-rule-requires c κs = (
+  omega (
+    arith,
+    here (c .before .before .before .before .before) .width-most,
+    c .before .before .before .width-at .ensures,
+  ),
+  search needs,
+)
 
 width-at-requires-2 : tie.Need-width-at-requires-2
 width-at-requires-2 c κs = search needs
@@ -64,12 +66,14 @@ load-requires-3 c κs =
     )
 
 enabled-rule-requires : tie.Need-enabled-rule-requires
-enabled-rule-requires c κs =
-    omega (
-      arith,
-      here (c .before .before .before .before .before .before .before) .width-most,
-      c .before .before .before .before .before .width-at2 .ensures,
-    )
+enabled-rule-requires c κs = (
+  omega (
+    arith,
+    here (c .before .before .before .before .before .before .before) .width-most,
+    c .before .before .before .before .before .width-at2 .ensures,
+  ),
+  search needs,
+)
 
 returns : tie.Need-returns
 returns c =

@@ -18,21 +18,21 @@ use Rattle.certificate.proofs.pass.settle.Statement.{statement}
 use Rattle.certificate.proofs.pass.settle.Tie as tie
 
 abbrev Inv-loop : tie.InvT-loop
-Inv-loop t n scratch wires cells₀ i₀ cells i =
+Inv-loop t n scratch wires cells₀ powers i₀ cells i =
     (i ≤ wires) × Moves facts n (along (rule (circuit t n)) (take wires scratch) i) cells₀ cells
 
 abbrev μ-loop : tie.MeasureT-loop
-μ-loop t n scratch wires cells₀ i₀ cells i = wires - i
+μ-loop t n scratch wires cells₀ powers i₀ cells i = wires - i
 
 loop-holds : tie.Need-loop-holds Inv-loop μ-loop
 loop-holds c =
-    (search needs, none-passed facts-laws (lawful (c .before .before .before .pre .store .table)) _ _)
+    (search needs, none-passed facts-laws (lawful (c .before .before .before .pre .0 .store .table)) _ _)
 
 mul-wide : tie.Need-mul-wide Inv-loop μ-loop
 mul-wide c = omega arith
 
 shared-slice-read-wide : tie.Need-shared-slice-read-wide Inv-loop μ-loop
-shared-slice-read-wide c = omega (arith, c .before .before .before .before .before .before .pre .few)
+shared-slice-read-wide c = omega (arith, c .before .before .before .before .before .before .pre .0 .few)
 
 wide-requires : tie.Need-wide-requires Inv-loop μ-loop
 wide-requires c κs = search needs
@@ -40,13 +40,16 @@ wide-requires c κs = search needs
 wire-fact-requires : tie.Need-wire-fact-requires Inv-loop μ-loop
 wire-fact-requires c κs =
     let l = c .before .before .before .before in
-    wire-evaluable (l .before .before .before .before .pre) (c .before .before .before .loop-test .taken)
-    (c .before .wide .ensures .0) (l .loop .inv .1 .kept .long)
+    let (wired, powers) = l .before .before .before .before .pre in (
+      wire-evaluable wired (c .before .before .before .loop-test .taken) (c .before .wide .ensures .0)
+          (l .loop .inv .1 .kept .long),
+      powers,
+    )
 
 store-requires : tie.Need-store-requires Inv-loop μ-loop
 store-requires c κs =
     let l = c .before .before .before .before .before .before in
-    let w = l .before .before .before .before .pre in
+    let w = l .before .before .before .before .pre .0 in
     omega (
       arith,
       wire-below w (c .before .before .before .before .before .loop-test .taken)
@@ -64,7 +67,7 @@ loop-less c = omega arith
 loop-again : tie.Need-loop-again Inv-loop μ-loop
 loop-again c =
     let l = c .before .before .before .before .before .before .before .before .before in
-    let w = l .before .before .before .before .pre in
+    let w = l .before .before .before .before .pre .0 in
     let h = c .before .before .before .before .before .before .before .before .loop-test .taken in
     let e = c .before .before .before .before .before .before .wide .ensures .0 in (
       omega arith,
@@ -78,7 +81,7 @@ same-length c = c .before .loop .inv .1 .kept .long
 
 returns : tie.Need-returns Inv-loop μ-loop
 returns c =
-    let w = c .before .before .before .before .before .pre in
+    let w = c .before .before .before .before .before .pre .0 in
     all-passed facts-laws (lawful (w .store .table)) w (c .before .loop .inv .1) (omega arith)
     (c .before .loop .inv .0)
 

@@ -16,7 +16,7 @@ operator : (c : tie.At-match-keys2) → let x = c .before .before .before .befor
     OperatorHere (x .t .now) (x .n) (x .v)
 operator c =
     let x = c .before .before .before .before .args in
-    let p = c .before .before .before .before .pre in
+    let p = c .before .before .before .before .pre .0 in
     operator-here (x .t .now) (x .n) (x .v) (p .below) (p .store .table .valid)
     (sym (c .before .kind-at .ensures) ∙ c .match .keys2)
 
@@ -24,7 +24,7 @@ multiplexer : (c : tie.At-match-rest) → let x = c .before .before .before .bef
     MultiplexerHere (x .t .now) (x .n) (x .v)
 multiplexer c =
     let x = c .before .before .before .before .args in
-    let p = c .before .before .before .before .pre in
+    let p = c .before .before .before .before .pre .0 in
     let kind = c .before .kind-at .ensures in
     multiplexer-here (x .t .now) (x .n) (x .v) (p .below) (p .store .table .valid) (p .is)
     (λ e. c .match .rest .0 .1 (kind ∙ e)) (λ e. c .match .rest .1 (kind ∙ e))
@@ -58,12 +58,14 @@ load-requires-2 c κs =
     omega (arith, operator (c .before .before .before .before .before .before) .b-below, c .b-at .ensures)
 
 operator-rule-requires : tie.Need-operator-rule-requires
-operator-rule-requires c κs =
-    omega (
-      arith,
-      operator (c .before .before .before .before .before .before .before) .width-most,
-      c .before .before .before .before .width-at .ensures,
-    )
+operator-rule-requires c κs = (
+  omega (
+    arith,
+    operator (c .before .before .before .before .before .before .before) .width-most,
+    c .before .before .before .before .width-at .ensures,
+  ),
+  search needs,
+)
 
 width-at-requires-2 : tie.Need-width-at-requires-2
 width-at-requires-2 c κs = search needs
@@ -88,17 +90,19 @@ load-requires-5 c κs =
     omega (arith, multiplexer (c .before .before .before .before .before .before) .c-below, c .c-at .ensures)
 
 multiplexer-rule-requires : tie.Need-multiplexer-rule-requires
-multiplexer-rule-requires c κs =
-    omega (
-      arith,
-      multiplexer (c .before .before .before .before .before .before .before) .width-most,
-      c .before .before .before .before .before .before .width-at2 .ensures,
-    )
+multiplexer-rule-requires c κs = (
+  omega (
+    arith,
+    multiplexer (c .before .before .before .before .before .before .before) .width-most,
+    c .before .before .before .before .before .before .width-at2 .ensures,
+  ),
+  search needs,
+)
 
 returns : tie.Need-returns
 returns c =
     let x = c .before .before .before .before .before .args in
-    let p = c .before .before .before .before .before .pre in
+    let p = c .before .before .before .before .before .pre .0 in
     ap Always (c .value-at .ensures)
     ∙ constant-rule (circuit (x .t .now) (x .n)) (x .v) (factAt (x .cells .now)) _ _
     (constant-here (x .t .now) (x .n) (x .v) (p .below)

@@ -14,22 +14,23 @@ use Rattle.engine.proofs.Standing.{ready-kept, wired-long}
 use Rattle.engine.proofs.Rounds.{Running, run-start, run-next, run-end, still-running, run-stopped}
 use Rattle.certificate.specs.Promise.{room}
 use Rattle.certificate.proofs.Rounds.{lawful, counted, rounds-small, certificate-holds}
+use borrow.Author.Needs.{needs}
 use Rattle.certificate.proofs.round.run_rounds.Statement.{statement}
 use Rattle.certificate.proofs.round.run_rounds.Tie as tie
 
 abbrev Inv-loop : tie.InvT-loop
-Inv-loop t n scratch₀ wires registers cells₀ count₀ scratch cells count =
+Inv-loop t n scratch₀ wires registers cells₀ powers count₀ scratch cells count =
     Running facts room t n (rule (circuit t n)) (initialStore (circuit t n)) (rounds (circuit t n)) n
     (n + n) scratch₀ cells₀ scratch cells wires registers count
 
 abbrev μ-loop : tie.MeasureT-loop
-μ-loop t n scratch₀ wires registers cells₀ count₀ scratch cells count = rounds (circuit t n) - count
+μ-loop t n scratch₀ wires registers cells₀ powers count₀ scratch cells count = rounds (circuit t n) - count
 
 loop-holds : tie.Need-loop-holds Inv-loop μ-loop
-loop-holds c = run-start (c .before .before .before .pre .0) (c .before .before .before .pre .1)
+loop-holds c = run-start (c .before .before .before .pre .0) (c .before .before .before .pre .1 .0)
 
 stage-requires : tie.Need-stage-requires Inv-loop μ-loop
-stage-requires c κs = c .before .before .loop .inv .ready
+stage-requires c κs = (c .before .before .loop .inv .ready, search needs)
 
 commit-requires : tie.Need-commit-requires Inv-loop μ-loop
 commit-requires c κs =
@@ -42,9 +43,11 @@ commit-requires c κs =
 settle-requires : tie.Need-settle-requires Inv-loop μ-loop
 settle-requires c κs =
     let l = c .before .before .before .before .before .before .before .before .before .before .before .before .before in
-    let stage = c .before .before .before .before .before .before .before .before .before .before .stage .ensures in
-    wired-long (ready-kept (l .loop .inv .ready) (omega arith) (stage .0) .wired)
-    (c .before .before .before .before .commit .ensures .kept .long)
+    let stage = c .before .before .before .before .before .before .before .before .before .before .stage .ensures in (
+      wired-long (ready-kept (l .loop .inv .ready) (omega arith) (stage .0) .wired)
+          (c .before .before .before .before .commit .ensures .kept .long),
+      search needs,
+    )
 
 -- the turn of which the settling is the last call
 abbrev turn : (c : tie.After-settle Inv-loop μ-loop) → tie.At-loop Inv-loop μ-loop

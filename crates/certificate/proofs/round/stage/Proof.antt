@@ -24,17 +24,17 @@ use Rattle.certificate.proofs.round.stage.Statement.{statement}
 use Rattle.certificate.proofs.round.stage.Tie as tie
 
 abbrev Inv-loop : tie.InvT-loop
-Inv-loop t n cells scratch₀ first registers changed₀ j₀ scratch changed j =
+Inv-loop t n cells scratch₀ first registers powers changed₀ j₀ scratch changed j =
     (j ≤ registers)
     × Staged facts numbers room t n first registers cells n (n + n) (staged (circuit t n) (factAt cells))
     scratch₀ scratch j
     × (changed ≡ not (allBelow (staysAt (circuit t n) (rule (circuit t n)) same (factAt cells)) j))
 
 abbrev μ-loop : tie.MeasureT-loop
-μ-loop t n cells scratch₀ first registers changed₀ j₀ scratch changed j = registers - j
+μ-loop t n cells scratch₀ first registers powers changed₀ j₀ scratch changed j = registers - j
 
 loop-holds : tie.Need-loop-holds Inv-loop μ-loop
-loop-holds c = (search needs, none-staged (c .before .before .before .pre), changes-none _)
+loop-holds c = (search needs, none-staged (c .before .before .before .pre .0), changes-none _)
 
 add-wide : tie.Need-add-wide Inv-loop μ-loop
 add-wide c = omega arith
@@ -51,9 +51,11 @@ wide-requires : tie.Need-wide-requires Inv-loop μ-loop
 wide-requires c κs = search needs
 
 register-fact-requires : tie.Need-register-fact-requires Inv-loop μ-loop
-register-fact-requires c κs =
-    register-evaluable (c .before .before .before .loop .inv .1 .ready) (c .before .before .loop-test .taken)
-    (c .wide .ensures .0) refl
+register-fact-requires c κs = (
+  register-evaluable (c .before .before .before .loop .inv .1 .ready) (c .before .before .loop-test .taken)
+      (c .wide .ensures .0) refl,
+  search needs,
+)
 
 byte-requires : tie.Need-byte-requires Inv-loop μ-loop
 byte-requires c κs = search needs

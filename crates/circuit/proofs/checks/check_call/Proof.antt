@@ -36,7 +36,7 @@ mul-check-output c =
     record {
       fits =
           few-each _ _ (length-most _ (sym (b .check-length .ensures) ∙ c .enum-told .given .1))
-          (b .before .before .pre .0);
+          (b .before .before .pre .0 .0);
     }
 
 check-output-requires : tie.Need-check-output-requires
@@ -62,7 +62,7 @@ mul-check-scratch c =
       fits =
           few-each _ _ (length-most _
           (sym (b .check-length .ensures) ∙ c .before .before .before .enum-told .given .1))
-          (b .before .before .pre .1);
+          (b .before .before .pre .0 .1);
     }
 
 check-scratch-requires : tie.Need-check-scratch-requires

@@ -11,10 +11,10 @@ use Rattle.circuit.proofs.checks.check_records.Statement.{statement}
 use Rattle.circuit.proofs.checks.check_records.Tie as tie
 
 abbrev Inv-loop : tie.InvT-loop
-Inv-loop t n i₀ i = (i ≤ n) × (checkRecords t n ≡ checkRecordsFrom t n (n - i) i)
+Inv-loop t n powers i₀ i = (i ≤ n) × (checkRecords t n ≡ checkRecordsFrom t n (n - i) i)
 
 abbrev μ-loop : tie.MeasureT-loop
-μ-loop t n i₀ i = n - i
+μ-loop t n powers i₀ i = n - i
 
 loop-holds : tie.Need-loop-holds Inv-loop μ-loop
 loop-holds c = (search needs, scan-start (c .before .args .t .now) (c .before .args .n))

@@ -12,7 +12,7 @@ remainder-requires : tie.Need-remainder-requires
 remainder-requires c κs = search needs
 
 returns : tie.Need-returns
-returns c = c .remainder .ensures ∙ c .before .wrapped .ensures (c .before .before .args .w) (c .before .before .pre)
+returns c = c .remainder .ensures ∙ c .before .wrapped .ensures (c .before .before .args .w) (c .before .before .pre .0)
 
 pub evaluate-spec : {M : Type 1} → statement M
 evaluate-spec = tie.close (tie.spec wrapped-requires remainder-requires returns)

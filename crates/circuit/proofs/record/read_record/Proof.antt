@@ -1,7 +1,7 @@
 -- Grounds 5 to 10, each where those before it do not hold.
 -- Assumes nothing.
-use mathlib.Core.Path.{sym, ap, _∙_}
-use mathlib.Core.Bool.{Bool}
+use mathlib.Core.Path.{_≡_, sym, ap, _∙_}
+use mathlib.Core.Bool.{Bool, true, false}
 use mathlib.Core.List.{_∷_}
 use Prim.Native.Nat.{ℕ}
 use borrow.Author.Tests.{not-true, not-false}
@@ -9,9 +9,10 @@ use lib.Dec.{eqb, leb, ltb}
 use Rattle.net.specs.Tests.{every}
 use Rattle.circuit.specs.declared.record.Fields.{Fields}
 use Rattle.circuit.specs.declared.record.Record.{Record}
-use Rattle.circuit.specs.declared.record.ReadRecord.the-variants.{Read}
+use Rattle.circuit.specs.declared.record.ReadRecord.the-variants.{Read, Refused}
+use Rattle.circuit.specs.declared.refusal.Ground.the-variants.{ValueTooWide}
 use Rattle.circuit.specs.Record.{uses}
-use Rattle.circuit.specs.Reading.{codes, unused}
+use Rattle.circuit.specs.Reading.{codes, unused, readRecord}
 use Rattle.circuit.proofs.Lookups.{kind-is, kind-none}
 use Rattle.circuit.proofs.Records.{width-most, refused-kind, refused-width, refused-code, refused-zeros, refused-variables, refused-value, accepted}
 use borrow.Author.Needs.{needs}
@@ -125,77 +126,58 @@ returns-5 c =
     (c .before .uses-below .ensures) ∙ not-true _ (c .if4 .taken) in
     refused-variables f n (kind .0) width code zeros variables
 
+power-in-requires : tie.Need-power-in-requires
+power-in-requires c κs =
+    let k = c .before .before .before .before .before .before .before in
+    let start = k .before .before .before .before .before .before in (
+      width-most (start .args .f .width) (sym (k .before .bad-width .ensures) ∙ k .if1 .left),
+      start .pre,
+    )
+
 too-wide-requires : tie.Need-too-wide-requires
-too-wide-requires c κs =
-    width-most (c .before .before .before .before .before .before .before .before .before .before .before .before
-    .before .args .f .width)
-    (sym (c .before .before .before .before .before .before .before .before .bad-width .ensures) ∙
-    c .before .before .before .before .before .before .before .if1 .left)
+too-wide-requires c κs = c .power-in .ensures
+
+-- what the function is given
+abbrev given : tie.After-too-wide → tie.Start
+given c =
+    c .before .before .before .before .before .before .before .before .before .before .before .before .before .before
+    .before
+
+-- grounds 5 to 9 do not hold, and the last test decides ground 10
+decided : (c : tie.After-too-wide) → let x = given c .args in
+    (c .too-wide .result ≡ true → Refused ValueTooWide ≡ readRecord (x .f) (x .n))
+    × (c .too-wide .result ≡ false →
+    Read (c .before .before .before .before .before .before .decode .result) ≡ readRecord (x .f) (x .n))
+unfolding zero-test below-test
+decided c =
+    let used = c .before .before in
+    let zeroed = used .before .before in
+    let known = zeroed .before .before .before in
+    let wide = known .before .before in
+    let f = given c .args .f in
+    let n = given c .args .n in
+    let kind =
+    kind-is (f .kind) _
+    (sym (wide .before .before .before .before .before .read-kind .ensures) ∙
+    wide .before .before .before .kind .given .1) in
+    let width = sym (wide .before .bad-width .ensures) ∙ wide .if1 .left in
+    let code =
+    ap (λ k. leb (codes k) (f .code)) (sym (kind .1)) ∙ sym (known .before .unknown-code .ensures) ∙
+    known .if2 .left in
+    let record-is = zeroed .before .before .decode .ensures in
+    let zeros =
+    ap (zero-test f) (sym record-is) ∙ sym (zeroed .before .unused-zero .ensures) ∙ not-false _ (zeroed .if3 .left) in
+    let variables =
+    ap (below-test n) (sym record-is) ∙ sym (used .before .uses-below .ensures) ∙ not-false _ (used .if4 .left) in (
+      λ told. refused-value f n (kind .0) width code zeros variables (sym (c .too-wide .ensures) ∙ told),
+      λ told. ap Read record-is ∙ accepted f n (kind .0) width code zeros variables (sym (c .too-wide .ensures) ∙ told),
+    )
 
 returns-6 : tie.Need-returns-6
-unfolding zero-test below-test
-returns-6 c =
-    let f =
-    c .before .before .before .before .before .before .before .before .before .before .before .before .before .before
-    .before .args .f in
-    let n =
-    c .before .before .before .before .before .before .before .before .before .before .before .before .before .before
-    .before .args .n in
-    let kind =
-    kind-is (f .kind) _ (sym
-    (c .before .before .before .before .before .before .before .before .before .before .before .before .before .before
-    .read-kind .ensures) ∙
-    c .before .before .before .before .before .before .before .before .before .before .before .before .kind .given
-    .1) in
-    let width =
-    sym (c .before .before .before .before .before .before .before .before .before .before .bad-width .ensures) ∙
-    c .before .before .before .before .before .before .before .before .before .if1 .left in
-    let code =
-    ap (λ k. leb (codes k) (f .code)) (sym (kind .1)) ∙ sym
-    (c .before .before .before .before .before .before .before .before .unknown-code .ensures) ∙
-    c .before .before .before .before .before .before .before .if2 .left in
-    let zeros =
-    ap (zero-test f) (sym (c .before .before .before .before .before .before .decode .ensures)) ∙ sym
-    (c .before .before .before .before .before .unused-zero .ensures) ∙ not-false _
-    (c .before .before .before .before .if3 .left) in
-    let variables =
-    ap (below-test n) (sym (c .before .before .before .before .before .before .decode .ensures)) ∙ sym
-    (c .before .before .before .uses-below .ensures) ∙ not-false _ (c .before .before .if4 .left) in
-    let value = sym (c .before .too-wide .ensures) ∙ c .if5 .taken in
-    refused-value f n (kind .0) width code zeros variables value
+returns-6 c = decided (c .before) .0 (c .if5 .taken)
 
 returns-7 : tie.Need-returns-7
-unfolding zero-test below-test
-returns-7 c =
-    let f =
-    c .before .before .before .before .before .before .before .before .before .before .before .before .before .before
-    .before .args .f in
-    let n =
-    c .before .before .before .before .before .before .before .before .before .before .before .before .before .before
-    .before .args .n in
-    let kind =
-    kind-is (f .kind) _ (sym
-    (c .before .before .before .before .before .before .before .before .before .before .before .before .before .before
-    .read-kind .ensures) ∙
-    c .before .before .before .before .before .before .before .before .before .before .before .before .kind .given
-    .1) in
-    let width =
-    sym (c .before .before .before .before .before .before .before .before .before .before .bad-width .ensures) ∙
-    c .before .before .before .before .before .before .before .before .before .if1 .left in
-    let code =
-    ap (λ k. leb (codes k) (f .code)) (sym (kind .1)) ∙ sym
-    (c .before .before .before .before .before .before .before .before .unknown-code .ensures) ∙
-    c .before .before .before .before .before .before .before .if2 .left in
-    let zeros =
-    ap (zero-test f) (sym (c .before .before .before .before .before .before .decode .ensures)) ∙ sym
-    (c .before .before .before .before .before .unused-zero .ensures) ∙ not-false _
-    (c .before .before .before .before .if3 .left) in
-    let variables =
-    ap (below-test n) (sym (c .before .before .before .before .before .before .decode .ensures)) ∙ sym
-    (c .before .before .before .uses-below .ensures) ∙ not-false _ (c .before .before .if4 .left) in
-    let value = sym (c .before .too-wide .ensures) ∙ c .if5 .left in
-    ap Read (c .before .before .before .before .before .before .decode .ensures) ∙ accepted f n
-    (kind .0) width code zeros variables value
+returns-7 c = decided (c .before) .1 (c .if5 .left)
 
 pub read-record-spec : {M : Type 1} → statement M
 read-record-spec =
@@ -214,6 +196,7 @@ read-record-spec =
     returns-4
     uses-below-requires
     returns-5
+    power-in-requires
     too-wide-requires
     returns-6
     returns-7)

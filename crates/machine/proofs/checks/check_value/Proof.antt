@@ -5,6 +5,9 @@ use borrow.Author.Needs.{needs}
 use Rattle.machine.proofs.checks.check_value.Statement.{statement}
 use Rattle.machine.proofs.checks.check_value.Tie as tie
 
+power-requires : tie.Need-power-requires
+power-requires c κs = search needs
+
 too-wide-requires : tie.Need-too-wide-requires
 too-wide-requires c κs = search needs
 
@@ -28,4 +31,4 @@ returns-3 c = rw (
 
 pub check-value-spec : {M : Type 1} → statement M
 check-value-spec =
-    tie.close (tie.spec too-wide-requires fixed-to-other-requires returns returns-2 returns-3)
+    tie.close (tie.spec power-requires too-wide-requires fixed-to-other-requires returns returns-2 returns-3)

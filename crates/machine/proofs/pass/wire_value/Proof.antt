@@ -71,13 +71,16 @@ shared-slice-read-evaluate-2 c =
       c .before .b-at .ensures,
     )
 
-evaluate-requires : tie.Need-evaluate-requires
-evaluate-requires c κs =
+power-requires : tie.Need-power-requires
+power-requires c κs =
     omega (
       arith,
       operator (c .before .before .before .before .before .before .before .before) .width-most,
       c .before .before .before .before .width-at .ensures,
     )
+
+evaluate-requires : tie.Need-evaluate-requires
+evaluate-requires c κs = (power-requires (c .before) κs, c .power .ensures)
 
 width-at-requires-2 : tie.Need-width-at-requires-2
 width-at-requires-2 c κs = search needs
@@ -136,19 +139,19 @@ returns c =
 
 returns-2 : tie.Need-returns-2
 returns-2 c =
-    let o = c .before .before .before .before .before .before .before .before .before in
+    let o = c .before .before .before .before .before .before .before .before .before .before in
     let x = o .before .before .before .before .args in
     let code =
-    c .before .before .before .before .before .before .operator-code .ensures
+    c .before .before .before .before .before .before .before .operator-code .ensures
     ∙ ap operatorCode
-    (c .before .before .before .before .before .before .before .operator-of .ensures
-    ∙ ap operatorOf (c .before .before .before .before .before .before .before .before .code-at .ensures)) in
+    (c .before .before .before .before .before .before .before .before .operator-of .ensures
+    ∙ ap operatorOf (c .before .before .before .before .before .before .before .before .before .code-at .ensures)) in
     c .evaluate .ensures
     ∙ rw (
       code,
-      c .before .before .before .before .before .width-at .ensures,
-      c .before .before .before .before .a-at .ensures,
-      c .before .before .b-at .ensures,
+      c .before .before .before .before .before .before .width-at .ensures,
+      c .before .before .before .before .before .a-at .ensures,
+      c .before .before .before .b-at .ensures,
     )
     (operator-value (circuit (x .t .now) (x .n)) (x .v) (state (x .values .now)) _ _ _ _ (operator o .is))
 
@@ -181,6 +184,7 @@ wire-value-spec =
     b-at-requires
     mul-evaluate-2
     shared-slice-read-evaluate-2
+    power-requires
     evaluate-requires
     width-at-requires-2
     a-at-requires-2
