@@ -226,7 +226,7 @@ fn print_before(rows: impl Iterator<Item = String>) {
     println!();
     println!("before and after: us a call of the earlier archive and of this one, both as shared objects,");
     println!("in turns: the median and the quartiles; after by before: the ratio of medians in five parts");
-    println!("of the turns, the middle one with the lowest and the highest");
+    println!("of the turns: the middle one, lowest and highest; empty where the earlier one refuses");
     println!();
     println!("{}", before_cells(&titles(), ["before", "after", "after by before"].map(String::from)));
     println!("|---|---|---:|---:|---:|---:|---:|");
