@@ -1,11 +1,11 @@
-/* Certificates over lambda-C tables, the bench beside them, and the bill of an order, as a static library (rt staticlib
- * capi writes target/staticlib/libcapi.a).
+/* Certificates over lambda-C tables, the bench beside them, tables trimmed by their certificates, and the bill of an
+ * order, as a static library (rt staticlib capi writes target/staticlib/libcapi.a).
  *
- * A call reads its table and its stimuli, or its sizes, and writes to the buffers that it is lent; no two of the
- * buffers may overlap, and no pointer may be null, not even that of a buffer of length 0. Lengths count elements:
- * bytes, 16-bit numbers of scratch, 32-bit numbers of values, sizes and shares. Buffers may hold anything at entry, and
- * may be longer than what is asked for; what lies past that is unchanged. A call keeps nothing, so that threads may
- * call at once on buffers of their own.
+ * A call reads its table with what is given beside it, or its sizes, and writes to the buffers that it is lent; no two
+ * of the buffers may overlap, and no pointer may be null, not even that of a buffer of length 0. Lengths count
+ * elements: bytes, 16-bit numbers of scratch and of variables, 32-bit numbers of values, sizes and shares. Buffers may
+ * hold anything at entry, and may be longer than what is asked for; what lies past that is unchanged. A call keeps
+ * nothing, so that threads may call at once on buffers of their own.
  *
  * Every input gets an answer: bad input is refused with a ground and a place (tools/table/README.md lists them), and no
  * output byte is then changed. The scratch is unchanged on grounds 1 to 10; on ground 11 the first numbers of the asked
@@ -38,6 +38,26 @@ uint64_t lambdac_certify(const uint8_t *table, size_t table_len, uint8_t *certif
  * length of the loop that stands at the front of the scratch. */
 uint64_t lambdac_bench(const uint8_t *table, size_t table_len, const uint8_t *stimuli, size_t stimuli_len,
                        uint32_t *values, size_t values_len, uint16_t *scratch, size_t scratch_len);
+
+/* Trims a table of 16-byte records by a certificate, 8 bytes a record as lambdac_certify writes, and a list of kept
+ * variables, which may be empty, repeat a variable and name inputs. Wires and registers that the certificate calls
+ * always become constants of the same width; then wires and registers that are neither kept nor reached from a kept
+ * variable through uses, in any number of steps, are dropped, and all inputs remain. What remains keeps its order and
+ * is numbered anew. Asks for as many bytes of trimmed as the table has, and one 16-bit number of numbers and four of
+ * scratch a record. Returns how many records are written to the front of trimmed, number j of the numbers then being
+ * the variable of the table that record j was; what lies past them in both is unchanged. Else ground * 2^32 + place:
+ * after grounds 1, 2 and 4 to 11 (3 is not tried) 20 for the first kept number with no record, its place its index in
+ * the list (told as 2^32 - 1 where it needs more than 32 bits), then 21 at place 0 for too little trimmed or numbers,
+ * then 22 at place 0 for a certificate that is not 8 bytes a record, and at the first variable whose byte 0 is none of
+ * 1 to 3, or is 1 with a number that does not fit its width.
+ * The caller vouches that the certificate is the table's own. Then, after a list of stimuli that lambdac_bench accepts
+ * on the table, and after that list with its pokes renumbered on the trimmed one, every variable that remains holds the
+ * same value, and the trimmed table's own certificate has the same 8 bytes for it. With any certificate that ground 22
+ * lets pass the trimmed table meets none of grounds 1, 2 and 5 to 11. Bytes 1 to 3 of a variable, and the number of one
+ * that is not always, are not read. */
+uint64_t lambdac_trim(const uint8_t *table, size_t table_len, const uint8_t *certificate, size_t certificate_len,
+                      const uint16_t *kept, size_t kept_len, uint8_t *trimmed, size_t trimmed_len, uint16_t *numbers,
+                      size_t numbers_len, uint16_t *scratch, size_t scratch_len);
 
 /* Bills an order of sizes, each the number of a table's records that are no inputs: of the connections of the whole
  * order the first 100 cost 40 cents each, the next 100 cost 30, all further ones 20. Asks for one 32-bit number of

@@ -1,7 +1,7 @@
 //! The calls of an archive, loaded from the shared object that `benchmarks/run` makes of it. So this archive
 //! and an earlier one, whose calls have the same names, are called in one run and in the same way.
 
-use crate::{Bench, Certify};
+use crate::{Bench, Certify, Trim};
 use compare::unpacked;
 use std::ffi::{c_char, c_int, c_void, CStr, CString};
 use std::mem::transmute;
@@ -17,11 +17,27 @@ const RTLD_NOW: c_int = 2;
 type CertifyCall = unsafe extern "C" fn(*const u8, usize, *mut u8, usize, *mut u16, usize) -> u64;
 type BenchCall =
     unsafe extern "C" fn(*const u8, usize, *const u8, usize, *mut u32, usize, *mut u16, usize) -> u64;
+type TrimCall = unsafe extern "C" fn(
+    *const u8,
+    usize,
+    *const u8,
+    usize,
+    *const u16,
+    usize,
+    *mut u8,
+    usize,
+    *mut u16,
+    usize,
+    *mut u16,
+    usize,
+) -> u64;
 
 /// An archive's calls on tables. They stay loaded.
 pub struct Archive {
     pub certify: &'static Certify,
     pub bench: &'static Bench,
+    /// Not every archive trims.
+    pub trim: Option<&'static Trim>,
 }
 
 impl Archive {
@@ -34,14 +50,15 @@ impl Archive {
         let found = |name: &CStr| {
             // SAFETY: the library is loaded, and the name is a C string.
             let call = unsafe { dlsym(library, name.as_ptr()) };
-            assert!(!call.is_null(), "{path} has no {name:?}");
-            call
+            (!call.is_null()).then_some(call)
         };
-        // SAFETY: include/lambdac.h declares the two calls with these types.
+        let expected = |name: &CStr| found(name).unwrap_or_else(|| panic!("{path} has no {name:?}"));
+        // SAFETY: include/lambdac.h declares the calls with these types.
         unsafe {
             Archive {
-                certify: certify(transmute::<*mut c_void, CertifyCall>(found(c"lambdac_certify"))),
-                bench: bench(transmute::<*mut c_void, BenchCall>(found(c"lambdac_bench"))),
+                certify: certify(transmute::<*mut c_void, CertifyCall>(expected(c"lambdac_certify"))),
+                bench: bench(transmute::<*mut c_void, BenchCall>(expected(c"lambdac_bench"))),
+                trim: found(c"lambdac_trim").map(|call| trim(transmute::<*mut c_void, TrimCall>(call))),
             }
         }
     }
@@ -62,4 +79,33 @@ fn bench(call: BenchCall) -> &'static Bench {
         let answer = unsafe { call(t, table.len(), l, list.len(), v, values.len(), s, scratch.len()) };
         unpacked(answer).map(|_| ())
     }))
+}
+
+fn trim(call: TrimCall) -> &'static Trim {
+    Box::leak(Box::new(
+        move |table: &[u8],
+              certificate: &[u8],
+              kept: &[u16],
+              trimmed: &mut [u8],
+              numbers: &mut [u16],
+              scratch: &mut [u16]| {
+            // SAFETY: as above.
+            unpacked(unsafe {
+                call(
+                    table.as_ptr(),
+                    table.len(),
+                    certificate.as_ptr(),
+                    certificate.len(),
+                    kept.as_ptr(),
+                    kept.len(),
+                    trimmed.as_mut_ptr(),
+                    trimmed.len(),
+                    numbers.as_mut_ptr(),
+                    numbers.len(),
+                    scratch.as_mut_ptr(),
+                    scratch.len(),
+                )
+            })
+        },
+    ))
 }

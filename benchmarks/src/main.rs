@@ -6,45 +6,44 @@
 //! Given the paths of two shared objects, made of this archive and of an earlier one, it also holds the one
 //! against the other.
 
+mod alike;
 mod before;
 mod bench;
 mod certify;
 mod measure;
+mod print;
 mod schedule;
 mod shapes;
 mod table;
+mod trim;
 mod worklist;
 
 #[path = "../../model/tests/common/mod.rs"]
 mod common;
 
+use alike::{
+    assert_alike, bench_each, benched, certified, certify_each, compare_variants, trim_each, trimmed, Made,
+};
 use before::Archive;
-use common::shapes::random_pair;
-use common::tables::damage;
-use common::{noise, Random};
-use measure::{compared, medians, Call, Compared};
-use model::{read_records, Record, Refusal};
-use shapes::Shape;
+use common::trims::Given;
+use common::Random;
+use measure::{compared, medians, Call};
+use model::{read_records, Record};
+use print::{compared_row, empty_row, print_before, print_head, print_row, row_head};
+use shapes::{Shape, Shapes};
 use std::cell::RefCell;
-use std::fmt::{Debug, Display};
+use std::fmt::Debug;
 use std::hint::black_box;
 
 type Certify = dyn Fn(&[u8], &mut [u8], &mut [u16]) -> certify::Answer;
 type Bench = dyn Fn(&[u8], &[u8], &mut [u32], &mut [u16]) -> bench::Answer;
+type Trim = dyn Fn(&[u8], &[u8], &[u16], &mut [u8], &mut [u16], &mut [u16]) -> trim::Answer;
 
 /// The archive's call, and then the variants.
 const CERTIFY: [&Certify; 5] =
     [&compare::certify, &certify::by_bytes, &certify::by_chunks, &certify::by_structs, &worklist::certify];
 const BENCH: [&Bench; 4] = [&compare::bench, &bench::by_bytes, &bench::by_chunks, &bench::by_structs];
-
-/// What a call answers, and what it leaves in its output and in its scratch.
-type Made<A, T> = (Result<A, Refusal>, Vec<T>, Vec<u16>);
-
-/// How many of the variants work without a heap, so that their scratch is compared as well.
-const SAME_SCRATCH: usize = 2;
-
-/// How many random tables and lists, about half of them refused, the variants are compared on besides.
-const RANDOM_TABLES: usize = 3000;
+const TRIM: [&Trim; 4] = [&compare::trim, &trim::by_bytes, &trim::by_chunks, &trim::by_structs];
 
 /// With this seed the shapes are those of docs/PERFORMANCE.md.
 const SEED: u64 = 0x1833_2ffc_e272_4a06;
@@ -58,92 +57,22 @@ fn main() {
     };
     let mut random = Random::of_test("benchmarks", SEED);
     // The shapes come first, so that they do not depend on the random tables.
-    let [for_certify, for_bench] = shapes::shapes(&mut random);
+    let Shapes { for_certify, for_bench, for_trim } = shapes::shapes(&mut random);
     compare_variants(&mut random);
     print_head();
-    let mut held = Vec::new();
-    for shape in for_certify {
-        held.push(certify_row(&shape, archives.as_ref()));
-    }
-    for shape in for_bench {
-        held.push(bench_row(&shape, archives.as_ref()));
-    }
+    let archives = archives.as_ref();
+    let mut held: Vec<Option<String>> = Vec::new();
+    held.extend(for_certify.iter().map(|shape| certify_row(shape, archives)));
+    held.extend(for_bench.iter().map(|shape| bench_row(shape, archives)));
+    held.extend(for_trim.iter().map(|shape| trim_row(shape, archives)));
     if archives.is_some() {
         print_before(held.into_iter().flatten());
-    }
-}
-
-fn compare_variants(random: &mut Random) {
-    for _ in 0..RANDOM_TABLES {
-        compare_random(random);
     }
 }
 
 #[test]
 fn variants_answer_alike() {
     compare_variants(&mut Random::of_test("benchmarks", SEED));
-}
-
-fn compare_random(random: &mut Random) {
-    let (n, length) = (1 + random.below(40), random.below(20));
-    let (mut table, mut stimuli) = random_pair(random, n, length);
-    if random.percent(30) {
-        damage(random, &mut table);
-    }
-    if random.percent(30) {
-        damage(random, &mut stimuli);
-    }
-    let longer = random.below(3);
-    let _ = certified(&table, longer);
-    let _ = benched(&table, &stimuli, longer);
-}
-
-/// The answer of all certifying calls, once they are found equal.
-fn certified(table: &[u8], longer: usize) -> certify::Answer {
-    let made = certify_each(CERTIFY, table, longer);
-    assert_alike(&made);
-    made[0].0
-}
-
-fn certify_each<const N: usize>(calls: [&Certify; N], table: &[u8], longer: usize) -> [Made<u32, u8>; N] {
-    let n = table.len() / 16;
-    calls.map(|call| {
-        let mut certificate: Vec<u8> = noise(n * 8 + longer).map(|x| x as u8).collect();
-        let mut scratch: Vec<u16> = noise(n * 4 + longer).collect();
-        let answer = call(table, &mut certificate, &mut scratch);
-        (answer, certificate, scratch)
-    })
-}
-
-/// The answer of all bench calls, once they are found equal.
-fn benched(table: &[u8], stimuli: &[u8], longer: usize) -> bench::Answer {
-    let made = bench_each(BENCH, table, stimuli, longer);
-    assert_alike(&made);
-    made[0].0
-}
-
-fn bench_each<const N: usize>(
-    calls: [&Bench; N],
-    table: &[u8],
-    stimuli: &[u8],
-    longer: usize,
-) -> [Made<(), u32>; N] {
-    let n = table.len() / 16;
-    calls.map(|call| {
-        let mut values: Vec<u32> = noise(n + longer).map(u32::from).collect();
-        let mut scratch: Vec<u16> = noise(n * 4 + longer).collect();
-        let answer = call(table, stimuli, &mut values, &mut scratch);
-        (answer, values, scratch)
-    })
-}
-
-/// Asserts that every call made the first one's answer and output, and the first ones its scratch.
-fn assert_alike<A: PartialEq + Debug, T: PartialEq + Debug>(made: &[Made<A, T>]) {
-    for (i, other) in made.iter().enumerate().skip(1) {
-        assert_eq!(made[0].0, other.0, "the answer of call {i}");
-        assert_eq!(made[0].1, other.1, "the output of call {i}");
-        assert!(i > SAME_SCRATCH || made[0].2 == other.2, "the scratch of call {i}");
-    }
 }
 
 /// How many records are wires and how many registers.
@@ -199,65 +128,41 @@ fn bench_row(shape: &Shape, archives: Option<&[Archive; 2]>) -> Option<String> {
     })
 }
 
+/// With the table's own certificate. An archive from before trimming has no time.
+fn trim_row(shape: &Shape, archives: Option<&[Archive; 2]>) -> Option<String> {
+    let [(_, certificate, _)] = certify_each([CERTIFY[0]], &shape.table, 0);
+    let given = &Given { table: shape.table.clone(), certificate, kept: shape.kept.clone() };
+    let written = trimmed(given, 0, 0).expect("the shapes are accepted");
+    let n = given.records();
+    let lent = &RefCell::new((vec![0; n * 16], vec![0; n], vec![0; n * 4]));
+    let ready = |call: &'static Trim| -> Call {
+        Box::new(move || {
+            let (trimmed, numbers, scratch) = &mut *lent.borrow_mut();
+            let Given { table, certificate, kept } = black_box(given);
+            let _ = black_box(call(table, certificate, kept, trimmed, numbers, scratch));
+        })
+    };
+    let times = medians(&mut TRIM.map(ready));
+    let head = row_head("trim", shape.name, n, written);
+    print_row(&head, n, &times);
+    archives.map(|archives| match archives.each_ref().map(|archive| archive.trim) {
+        [Some(this), Some(earlier)] => {
+            let calls = [this, earlier];
+            before_row(&head, &trim_each(calls, given, 0, 0), calls.map(ready))
+        }
+        _ => empty_row(&head),
+    })
+}
+
 /// The two archives' times, with empty cells where the earlier one refuses what this one accepts.
-fn before_row<A: PartialEq + Debug, T: PartialEq + Debug>(
+fn before_row<A: PartialEq + Debug, O: PartialEq + Debug>(
     head: &str,
-    made: &[Made<A, T>; 2],
+    made: &[Made<A, O>; 2],
     mut calls: [Call; 2],
 ) -> String {
     if made[1].0.is_err() {
-        return before_cells(head, [""; 3].map(String::from));
+        return empty_row(head);
     }
     assert_alike(made);
-    let Compared { quartiles, ratios: [lowest, _, middle, _, highest] } = compared(&mut calls);
-    let [after, before] = quartiles.map(|spread| {
-        let decimals = if spread[1] < 1000.0 { 4 } else { 2 };
-        let [low, median, high] = spread.map(|ns| format!("{:.decimals$}", ns / 1000.0));
-        format!("{median} ({low} to {high})")
-    });
-    before_cells(head, [before, after, format!("{middle:.2} ({lowest:.2} to {highest:.2})")])
-}
-
-fn before_cells(head: &str, [before, after, ratio]: [String; 3]) -> String {
-    format!("{head} {before:>32} | {after:>32} | {ratio:>19} |")
-}
-
-fn print_before(rows: impl Iterator<Item = String>) {
-    println!();
-    println!("before and after: us a call of the earlier archive and of this one, both as shared objects,");
-    println!("in turns: the median and the quartiles; after by before: the ratio of medians in five parts");
-    println!("of the turns: the middle one, lowest and highest; empty where the earlier one refuses");
-    println!();
-    println!("{}", before_cells(&titles(), ["before", "after", "after by before"].map(String::from)));
-    println!("|---|---|---:|---:|---:|---:|---:|");
-    rows.for_each(|row| println!("{row}"));
-}
-
-fn print_head() {
-    println!("count: rounds of certify, stimuli of bench; ns each: the call's time by its evaluations");
-    println!(
-        "times are medians; a ratio is the archive's time by the variant's: below 1 the archive is faster"
-    );
-    println!();
-    let [us, ns] = ["us a call", "ns each"];
-    let [bytes, chunks, structs, worklist] = ["bytes", "chunks", "structs", "worklist"];
-    let head = titles();
-    println!("{head} {us:>9} | {ns:>7} | {bytes:>5} | {chunks:>6} | {structs:>7} | {worklist:>8} |");
-    println!("|---|---|---:|---:|---:|---:|---:|---:|---:|---:|");
-}
-
-/// The titles of the cells with which every row begins.
-fn titles() -> String {
-    row_head("call", "shape", "records", "count")
-}
-
-fn row_head(call: &str, name: &str, n: impl Display, count: impl Display) -> String {
-    format!("| {call:<7} | {name:<25} | {n:>7} | {count:>5} |")
-}
-
-fn print_row(head: &str, evaluations: usize, times: &[f64]) {
-    let ratio = |i: usize| times.get(i).map_or(String::new(), |time| format!("{:.2}", times[0] / time));
-    let (us, ns) = (times[0] / 1000.0, times[0] / evaluations as f64);
-    let [bytes, chunks, structs, worklist] = [1, 2, 3, 4].map(ratio);
-    println!("{head} {us:>9.2} | {ns:>7.1} | {bytes:>5} | {chunks:>6} | {structs:>7} | {worklist:>8} |");
+    compared_row(head, &compared(&mut calls))
 }

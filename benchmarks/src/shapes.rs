@@ -9,29 +9,41 @@ use crate::common::{
 };
 use model::{read_records, Operator, Record};
 
-/// A table, and for the bench the list that runs on it.
+/// A table, for the bench the list that runs on it, and for trim the variables that are kept.
 pub struct Shape {
     pub name: &'static str,
     pub table: Vec<u8>,
     pub stimuli: Vec<u8>,
+    pub kept: Vec<u16>,
 }
 
 fn shape(name: &'static str, table: &[RecordBytes]) -> Shape {
-    listed(name, table, &[])
+    Shape { name, table: table.as_flattened().to_vec(), stimuli: vec![], kept: vec![] }
 }
 
 fn listed(name: &'static str, table: &[RecordBytes], list: &[[u8; 8]]) -> Shape {
-    Shape { name, table: table.as_flattened().to_vec(), stimuli: list.as_flattened().to_vec() }
+    Shape { stimuli: list.as_flattened().to_vec(), ..shape(name, table) }
 }
 
-/// The shapes for certify and those for the bench. Those with enables are made last, so that no other depends
-/// on them.
-pub fn shapes(random: &mut Random) -> [Vec<Shape>; 2] {
-    let mut made = [for_certify(random), for_bench(random)];
-    for (shapes, enabled) in made.iter_mut().zip(with_enables(random)) {
-        shapes.extend(enabled);
-    }
-    made
+fn kept(name: &'static str, table: &[RecordBytes], kept: &[u16]) -> Shape {
+    Shape { kept: kept.to_vec(), ..shape(name, table) }
+}
+
+/// The shapes for each call.
+pub struct Shapes {
+    pub for_certify: Vec<Shape>,
+    pub for_bench: Vec<Shape>,
+    pub for_trim: Vec<Shape>,
+}
+
+/// The shapes. Those with enables are made after the others of certify and the bench, and those for trim last,
+/// so that no other depends on them.
+pub fn shapes(random: &mut Random) -> Shapes {
+    let (mut for_certify, mut for_bench) = (for_certify(random), for_bench(random));
+    let [certify_enabled, bench_enabled] = with_enables(random);
+    for_certify.extend(certify_enabled);
+    for_bench.extend(bench_enabled);
+    Shapes { for_certify, for_bench, for_trim: for_trim(random) }
 }
 
 fn for_certify(random: &mut Random) -> Vec<Shape> {
@@ -84,6 +96,35 @@ fn with_enables(random: &mut Random) -> [[Shape; 2]; 2] {
             listed("mix with enables, ticks", &mix, &ticks),
         ],
     ]
+}
+
+/// Their certificates call all operators on a constant always, no register of a chain, and a part of a mix.
+fn for_trim(random: &mut Random) -> Vec<Shape> {
+    let (operators, registers) = (operators(random, 4096), registers(4096));
+    let tree = multiplexers(random, 2048);
+    let (many, with_enables) = (mix(random, 4096), mix_with_enables(random, 4096));
+    let few = [256, 1024].map(|n| mix(random, n));
+    let all: Vec<u16> = (0..4096).collect();
+    let one = |name: &'static str, table: &[RecordBytes]| kept(name, table, &[last_user(table)]);
+    vec![
+        one("case A, one kept", &case_a(free(1))),
+        one("operators, last kept", &operators),
+        kept("operators, all kept", &operators, &all),
+        one("chain of registers, last", &registers),
+        one("multiplexer tree, root", &tree),
+        one("random mix, one kept", &few[0]),
+        one("random mix, one kept", &few[1]),
+        one("random mix, one kept", &many),
+        kept("random mix, none kept", &many, &[]),
+        kept("random mix, all kept", &many, &all),
+        one("mix with enables, one", &with_enables),
+    ]
+}
+
+/// The last record that uses others.
+fn last_user(table: &[RecordBytes]) -> u16 {
+    let records = read_records(table.as_flattened()).unwrap();
+    records.iter().rposition(|record| record.uses().count() > 0).unwrap() as u16
 }
 
 /// One constant and operators of width 32, each on the one before it and on any before it.

@@ -9,10 +9,14 @@ pub trait Table {
 
     fn record(&self, v: usize) -> Record;
 
+    fn kind(&self, v: usize) -> Kind;
+
+    fn width(&self, v: usize) -> u32;
+
     /// 0 where record v is no wire, else one more than the number of variables that it uses.
     fn wire_uses(&self, v: usize) -> u16;
 
-    /// Variable k, counted from 0, of those that wire v uses.
+    /// Variable k, counted from 0, of those that record v uses.
     fn use_at(&self, v: usize, k: usize) -> usize;
 
     fn is_register(&self, v: usize) -> bool;
@@ -47,11 +51,6 @@ impl<'a> Bytes<'a> {
     fn fields(&self, v: usize) -> Fields {
         Fields::read(|i| self.0[v * 16 + i])
     }
-
-    #[inline(always)]
-    fn kind(&self, v: usize) -> Kind {
-        Kind::with_number(self.0[v * 16])
-    }
 }
 
 impl Table for Bytes<'_> {
@@ -63,6 +62,16 @@ impl Table for Bytes<'_> {
     #[inline(always)]
     fn record(&self, v: usize) -> Record {
         self.fields(v).record()
+    }
+
+    #[inline(always)]
+    fn kind(&self, v: usize) -> Kind {
+        Kind::with_number(self.0[v * 16])
+    }
+
+    #[inline(always)]
+    fn width(&self, v: usize) -> u32 {
+        self.0[v * 16 + 1].into()
     }
 
     #[inline(always)]
@@ -89,11 +98,6 @@ impl<'a> Chunks<'a> {
         }
         Ok(Chunks(t))
     }
-
-    #[inline(always)]
-    fn kind(&self, v: usize) -> Kind {
-        Kind::with_number(self.0[v][0])
-    }
 }
 
 #[inline(always)]
@@ -110,6 +114,16 @@ impl Table for Chunks<'_> {
     #[inline(always)]
     fn record(&self, v: usize) -> Record {
         fields_of(&self.0[v]).record()
+    }
+
+    #[inline(always)]
+    fn kind(&self, v: usize) -> Kind {
+        Kind::with_number(self.0[v][0])
+    }
+
+    #[inline(always)]
+    fn width(&self, v: usize) -> u32 {
+        self.0[v][1].into()
     }
 
     #[inline(always)]
@@ -158,6 +172,16 @@ impl Table for Vec<Decoded> {
     #[inline(always)]
     fn record(&self, v: usize) -> Record {
         self[v].record
+    }
+
+    #[inline(always)]
+    fn kind(&self, v: usize) -> Kind {
+        self[v].record.kind()
+    }
+
+    #[inline(always)]
+    fn width(&self, v: usize) -> u32 {
+        self[v].record.width()
     }
 
     #[inline(always)]

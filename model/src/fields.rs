@@ -1,5 +1,5 @@
 //! Document 01, "The table": the 16 bytes of a record. One record is read from them and the number of
-//! records in the table, with grounds 5 to 10 tried in their order.
+//! records in the table, with grounds 5 to 10 tried in their order, and written to them again.
 
 use crate::{fits, InputKind, Kind, Operator, Record};
 
@@ -94,5 +94,26 @@ impl Record {
         let fields = Fields::read(|i| bytes[i]);
         fields.check(number_of_records)?;
         Ok(fields.record())
+    }
+
+    /// The 16 bytes of the record, those that it does not use being 0.
+    pub fn bytes(&self) -> [u8; 16] {
+        let (kind, choice, n) = match *self {
+            Record::Input { kind: InputKind::Fixed(n), .. } => (0, 0, n),
+            Record::Input { kind: InputKind::Free, .. } => (0, 1, 0),
+            Record::Input { kind: InputKind::Secret, .. } => (0, 2, 0),
+            Record::Constant { n, .. } => (1, 0, n),
+            Record::Operator { operator, .. } => (2, operator.code(), 0),
+            Record::Multiplexer { .. } => (3, 0, 0),
+            Record::Register { power_on, .. } => (4, 0, power_on),
+            Record::Enabled { power_on, .. } => (5, 0, power_on),
+        };
+        let mut bytes = [0; 16];
+        bytes[..3].copy_from_slice(&[kind, self.width() as u8, choice]);
+        for (place, variable) in [4, 6, 8].into_iter().zip(self.uses()) {
+            bytes[place..place + 2].copy_from_slice(&(variable as u16).to_le_bytes());
+        }
+        bytes[12..].copy_from_slice(&n.to_le_bytes());
+        bytes
     }
 }

@@ -1,12 +1,14 @@
-//! The reference model of document 01 and of three requests, S-1, the price list, S-2, the register with an
-//! enable, and S-3, fixed inputs that power up at 0, written from their definitions and not for speed.
+//! The reference model of document 01 and of four requests, S-1, the price list, S-2, the register with an
+//! enable, S-3, fixed inputs that power up at 0, and S-5, the trimmed table, written from their definitions and
+//! not for speed.
 //!
-//! In the document's order: `record` (kinds, operators, records), `fields` (the bytes of a record and their
-//! reading), `wires` (uses, loops, settling), `fact` (facts, rules, closed stores), `certify` (rounds, the
-//! certificate and its call), `machine` (power-on, poke, tick), `bench` (stimuli and the bench call) and
-//! `table` (the grounds that these calls share). Request S-2's kind of record stands among the five of the
-//! document in `record`, `fields`, `fact`, `machine` and `certify`; `machine` has an input's first value and
-//! `fact` its fact as S-3 has them. From S-1: `bill` (the bill of an order).
+//! In the document's order: `record` (kinds, operators, records), `fields` (the bytes of a record, their
+//! reading and writing), `wires` (uses, loops, settling), `fact` (facts, rules, closed stores), `certify`
+//! (rounds, the certificate and its call), `machine` (power-on, poke, tick), `bench` (stimuli and the bench
+//! call) and `table` (the grounds that the calls on tables share). Request S-2's kind of record stands among
+//! the five of the document in `record`, `fields`, `fact`, `machine` and `certify`; `machine` has an input's
+//! first value and `fact` its fact as S-3 has them. From S-1: `bill` (the bill of an order). From S-5: `trim`
+//! (the trimmed table and its call).
 //!
 //! The benchmark's variants read and evaluate records by what is here too. What they call again and again is
 //! always inlined, so that no call between the crates is timed.
@@ -19,6 +21,7 @@ mod fields;
 mod machine;
 mod record;
 mod table;
+mod trim;
 mod wires;
 
 pub use bench::{bench, run, split_stimuli, Stimulus};
@@ -29,6 +32,7 @@ pub use fields::Fields;
 pub use machine::{poke, power_on, tick, value};
 pub use record::{fits, remainder, InputKind, Kind, Operator, Record};
 pub use table::{check_lengths, is_loop, read_records, SCRATCH_A_RECORD};
+pub use trim::trim;
 pub use wires::{find_loop, settle, together};
 
 /// A refusal: the number of the ground on which work is turned down, and its place.
@@ -36,7 +40,8 @@ pub use wires::{find_loop, settle, together};
 pub struct Refusal {
     /// The ground, numbered as in document 01 and the requests.
     pub ground: u32,
-    /// The record for 5 to 10, the loop's length for 11, the stimulus for 14 to 17, the size for 19, else 0.
+    /// The record for 5 to 10, the loop's length for 11, the stimulus for 14 to 17, the size for 19, the kept
+    /// number's index for 20, the variable for 22 but where the certificate's length is wrong, else 0.
     pub place: usize,
 }
 

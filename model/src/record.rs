@@ -53,6 +53,12 @@ impl Operator {
         }
     }
 
+    /// The operator's code: its place in `BY_CODE`.
+    pub fn code(self) -> u8 {
+        let is_this = |other: &Operator| *other == self;
+        Operator::BY_CODE.iter().position(is_this).expect("BY_CODE has every operator") as u8
+    }
+
     /// The result, worked out on whole numbers, and then its remainder by 2^w.
     #[inline(always)]
     pub fn result(self, a: u32, b: u32, w: u32) -> u32 {
@@ -200,6 +206,7 @@ pub enum Record {
 
 impl Record {
     /// The record's kind.
+    #[inline(always)]
     pub fn kind(&self) -> Kind {
         match self {
             Record::Input { .. } => Kind::Input,
@@ -212,6 +219,7 @@ impl Record {
     }
 
     /// The width w of the record's variable.
+    #[inline(always)]
     pub fn width(&self) -> u32 {
         match *self {
             Record::Input { width, .. }
@@ -232,6 +240,28 @@ impl Record {
             Record::Register { a, .. } => [Some(a), None, None],
         };
         variables.into_iter().flatten()
+    }
+
+    /// The record with each variable that it uses renumbered.
+    pub fn renumbered(self, number: impl Fn(usize) -> usize) -> Record {
+        match self {
+            Record::Input { .. } | Record::Constant { .. } => self,
+            Record::Operator { width, operator, a, b } => {
+                Record::Operator { width, operator, a: number(a), b: number(b) }
+            }
+            Record::Multiplexer { width, a, b, c } => {
+                Record::Multiplexer { width, a: number(a), b: number(b), c: number(c) }
+            }
+            Record::Register { width, a, power_on } => Record::Register { width, a: number(a), power_on },
+            Record::Enabled { width, a, b, power_on } => {
+                Record::Enabled { width, a: number(a), b: number(b), power_on }
+            }
+        }
+    }
+
+    /// Whether the record is an input.
+    pub fn is_input(&self) -> bool {
+        self.kind() == Kind::Input
     }
 
     /// Whether the record is a wire.

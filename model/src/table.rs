@@ -1,5 +1,5 @@
-//! Document 01, "Grounds for turning work down": grounds 1 to 11 in their order, which both calls share,
-//! with what each of them leaves in the scratch.
+//! Document 01, "Grounds for turning work down": grounds 1 to 11 in their order, which all calls on tables
+//! share but for 3, which trimming passes over, with what each of them leaves in the scratch.
 
 use crate::wires::row_is_loop;
 use crate::{find_loop, Record, Refusal};

@@ -1,7 +1,7 @@
-//! Random tables and lists, well-formed and damaged: both calls refuse as each ground says when it is read
-//! alone, a shown row is a loop, an accepted table has none, the bench holds what a machine without stored
-//! wires holds, the order of the records matters for nothing, a register with an enable does what a
-//! multiplexer and a register do, and a fixed input what a free one or constant 0 does.
+//! Random tables and lists, well-formed and damaged: the certifying and the bench call refuse as each ground
+//! says when it is read alone, a shown row is a loop, an accepted table has none, the bench holds what a machine
+//! without stored wires holds, the order of the records matters for nothing, a register with an enable does what
+//! a multiplexer and a register do, and a fixed input what a free one or constant 0 does.
 
 mod common;
 
@@ -108,7 +108,8 @@ fn wires_have_an_order(records: &[Record]) -> bool {
     }
 }
 
-/// Both calls on the table, held against the grounds read alone. Gives the ground, or 0 when accepted.
+/// The certifying and the bench call on the table, held against the grounds read alone. Gives the ground, or 0
+/// when accepted.
 fn check_table(table: &[u8], longer: usize) -> u32 {
     let certified = certify_longer(table, longer).map(|_| ());
     let run = bench_longer(table, &[], longer).map(|_| ());

@@ -24,8 +24,8 @@ fn with(changes: &[(usize, usize, u8)]) -> Vec<u8> {
     records.as_flattened().to_vec()
 }
 
-/// Asserts that both calls refuse the table on this ground at this place, on buffers as long as asked and
-/// longer, whatever the stimuli are.
+/// Asserts that the certifying and the bench call refuse the table on this ground at this place, on buffers as
+/// long as asked and longer, whatever the stimuli are.
 fn assert_refused(table: &[u8], ground: u32, place: usize) {
     for longer in [0, 1, 9] {
         let refused = certify_longer(table, longer).unwrap_err();

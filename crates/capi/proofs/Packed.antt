@@ -2,7 +2,7 @@
 -- Assumes nothing.
 use mathlib.Core.Path.{_≡_, ap, ap₂}
 use mathlib.Core.List.{List}
-use Prim.Native.Nat.{ℕ, _^_, _<_, _≤_}
+use Prim.Native.Nat.{ℕ, _-_, _^_, _<_, _≤_}
 use native.Mathlib.Omega.{arith}
 use Rattle.net.proofs.Sums.{registers-few}
 use Rattle.circuit.specs.Refusal.{groundNumber}
@@ -10,6 +10,7 @@ use Rattle.circuit.specs.Circuit.{graph}
 use Rattle.circuit.specs.Stimuli.{checkStimuli}
 use Rattle.circuit.proofs.Places.{Refusals, refusals-weaken, ground-range, ground-told, stimuli-refusals}
 use Rattle.circuit.proofs.Tables.{circuit-length}
+use Rattle.fact.specs.Fact.{factAt}
 use Rattle.fact.specs.Certificate.{registers}
 use Rattle.call.specs.Call.{Lent, Left, Answer, accepted, refused, Call, size, circuitOf, AcceptedWith, Promises}
 use Rattle.call.proofs.Parts.{table-checked}
@@ -18,7 +19,10 @@ use Rattle.certificate.specs.Promise.{certifying}
 use Rattle.machine.specs.Promise.{benching}
 use Rattle.bill.specs.Promise.{Bills}
 use Rattle.bill.proofs.Promise.{accepted-small, refused-small}
-use Rattle.capi.specs.Packed.{packed, Low}
+use Rattle.trim.specs.Promise.{called, trimming}
+use Rattle.trim.proofs.Replaced.{replaced-length}
+use Rattle.trim.proofs.Survivors.{survivors-few}
+use Rattle.capi.specs.Packed.{packed, Low, cut}
 
 -- two answers with the same number are the same
 pub packed-told : (a a′ : Answer) → Low a → Low a′ → packed a ≡ packed a′ → a ≡ a′
@@ -58,3 +62,17 @@ benched-low s l e =
 pub billed-low : (sizes entry exit : List ℕ) (a : Answer) → Bills sizes entry exit a → Low a
 billed-low sizes entry exit (accepted k) p = accepted-small p .2
 billed-low sizes entry exit (refused g place) p = omega (arith, refused-small p .1)
+
+-- a trimmed table has no more records than the table
+pub trimmed-low : (certificate kept : List ℕ) (l : Lent) (e : Left) (a : Answer)
+    → Promises (trimming certificate kept) l e a → Low (cut a)
+trimmed-low certificate kept l e (accepted k) p =
+    omega (
+      arith,
+      p .accepts .count,
+      survivors-few (called certificate kept l) kept,
+      replaced-length (circuitOf l) (factAt certificate),
+      circuit-length (l .table) (size l),
+      table-checked (trimming certificate kept) l (p .past .passed) .small,
+    )
+trimmed-low certificate kept l e (refused g place) p = omega arith

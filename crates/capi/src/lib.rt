@@ -1,11 +1,12 @@
 // The calls under C names, for a static library: the answer is packed into one number. Buffers must not overlap.
 ghost use mathlib.Core.Path.{_≡_};
-ghost use Prim.Native.Nat.{_^_, _<_};
-ghost use Rattle.call.specs.Call.{refused, lent, left};
+ghost use Prim.Native.Nat.{_-_, _^_, _<_, min};
+ghost use Rattle.call.specs.Call.{refused, lent, left, Promises};
 ghost use Rattle.certificate.specs.Promise as certified;
 ghost use Rattle.machine.specs.Promise as benched;
 ghost use Rattle.bill.specs.Promise as billed;
-ghost use Rattle.capi.specs.Packed.{packed, Low, PackedOf, PromisesPacked};
+ghost use Rattle.trim.specs.Promise as trims;
+ghost use Rattle.capi.specs.Packed.{packed, Low, PackedOf, PromisesPacked, cut, CutOf};
 use bill::Billed;
 use bill::bill;
 use certificate::Certified;
@@ -14,6 +15,8 @@ use circuit::refusal::Ground;
 use circuit::refusal::ground_number;
 use machine::Benched;
 use machine::bench;
+use trim::Trimmed;
+use trim::trim;
 
 // A refusal as one number.
 fn pack_refusal(ground: Ground, place: usize) -> u64
@@ -56,6 +59,27 @@ fn pack_billed(answer: Billed) -> u64
     }
 }
 
+// A place as 32 bits tell it.
+fn cut_place(place: usize) -> usize
+    ensures { λ r. ⌜ r ≡ min place (2 ^ 32 - 1) ⌝ }
+{
+    if place < 4294967295 {
+        return place;
+    }
+    4294967295
+}
+
+// A trimming call's answer as one number. Its kept list may be longer than 32 bits can tell.
+fn pack_trimmed(answer: Trimmed) -> u64
+    requires { ⌜ Low (cut (trims.answerOf answer)) ⌝ }
+    ensures { λ r. ⌜ r ≡ packed (cut (trims.answerOf answer)) ⌝ }
+{
+    match answer {
+        Trimmed::Accepted(count) => count as u64,
+        Trimmed::Refused(ground, place) => pack_refusal(ground, cut_place(place)),
+    }
+}
+
 // The certifying call: the number of rounds, or ground * 2^32 + place.
 #[no_mangle]
 pub extern "C" fn lambdac_certify(table: &[u8], certificate: &mut [u8], scratch: &mut [u16]) -> u64
@@ -88,4 +112,21 @@ pub extern "C" fn lambdac_bill(sizes: &[u32], shares: &mut [u32]) -> u64
         (billed.Bills (now (sizes .entry)) (now (shares .entry)) (now (shares .exit))) r ⌝ }
 {
     pack_billed(bill(sizes, shares))
+}
+
+// The trimming call: the number of records written, or ground * 2^32 + place.
+#[no_mangle]
+pub extern "C" fn lambdac_trim(
+    table: &[u8],
+    certificate: &[u8],
+    kept: &[u16],
+    trimmed: &mut [u8],
+    numbers: &mut [u16],
+    scratch: &mut [u16],
+) -> u64
+    ensures { λ r. ⌜ CutOf (Promises (trims.trimming (now (certificate .entry)) (now (kept .entry)))
+        (trims.lent (now (table .entry)) (now (trimmed .entry)) (now (numbers .entry)) (now (scratch .entry)))
+        (trims.left (now (trimmed .exit)) (now (numbers .exit)) (now (scratch .exit)))) r ⌝ }
+{
+    pack_trimmed(trim(table, certificate, kept, trimmed, numbers, scratch))
 }

@@ -3,19 +3,21 @@
 use mathlib.Core.Path.{_≡_, refl, ap, _∙_}
 use mathlib.Core.List.{List, [], _∷_}
 use Prim.Native.Nat.{ℕ, zero, suc, _+_, _*_, _/_, _%_, _^_, _≤_, _<_}
+use native.Mathlib.Nat.{not-suc-le-zero}
 use native.Mathlib.Omega.{arith}
-use borrow.Author.Tests.{le-leb, leb-true}
-use lib.Dec.{leb}
-use lib.ListN.{getD, List·getD-eq-default}
+use borrow.Author.Tests.{le-leb, leb-true, ne-eqb}
+use lib.Dec.{eqb, leb}
+use lib.ListN.{length, getD, List·getD-eq-default}
 use Rattle.net.specs.Net.{Role, input, wire, register}
 use Rattle.net.proofs.Cases.{by-same}
 use Rattle.circuit.specs.declared.record.Fields.{Fields}
 use Rattle.circuit.specs.declared.record.Record.the-variants.{Input, Constant, Operator, Multiplexer, Register, Enabled}
 use Rattle.circuit.specs.Number.{u16At}
 use Rattle.circuit.specs.Operator.{operatorOf}
-use Rattle.circuit.specs.Record.{width, uses, role, wireUses, isRegister}
+use Rattle.circuit.specs.Record.{width, uses, role, inputOf, wireUses, isRegister}
 use Rattle.circuit.specs.Reading.{fieldsAt, inputKindOf, firstKinds, decode}
 use Rattle.circuit.specs.Machine.{initial}
+use Rattle.circuit.specs.Stimuli.{isInput}
 use Rattle.circuit.proofs.Bytes.{past}
 
 module _ (f : Fields) where
@@ -62,7 +64,27 @@ wireUses-most f =
     (λ e. rw (decode-register f e) (omega arith))
     (λ h. rw (decode-enabled f h) (omega arith))
 
--- the digits of base 16 from which the code takes it
+pub uses-most : (f : Fields) → length (uses (decode f)) ≤ 3
+uses-most f =
+    by-kind (f .kind)
+    (λ e. rw (decode-input f e) (omega arith))
+    (λ e. rw (decode-constant f e) (omega arith))
+    (λ e. rw (decode-operator f e) (omega arith))
+    (λ e. rw (decode-multiplexer f e) (omega arith))
+    (λ e. rw (decode-register f e) (omega arith))
+    (λ h. rw (decode-enabled f h) (omega arith))
+
+-- the digits of base 16 from which the code takes them
+pub uses-digit : (f : Fields) → f .kind ≤ 5 → 2175488 / 2 ^ (f .kind * 4) % 16 ≡ length (uses (decode f))
+uses-digit f h =
+    by-kind (f .kind)
+    (λ e. rw (decode-input f e, e))
+    (λ e. rw (decode-constant f e, e))
+    (λ e. rw (decode-operator f e, e))
+    (λ e. rw (decode-multiplexer f e, e))
+    (λ e. rw (decode-register f e, e))
+    (λ g. let e : f .kind ≡ 5 = omega arith in rw (decode-enabled f g, e))
+
 pub wireUses-digit : (f : Fields) → f .kind ≤ 5 → 17168 / 2 ^ (f .kind * 4) % 16 ≡ wireUses (decode f)
 wireUses-digit f h =
     by-kind (f .kind)
@@ -88,33 +110,31 @@ wire-multiplexer f e one two =
     (λ k. absurd (role-differs register wire (rw (decode-register f k) at e) (λ z. cc)))
     (λ k. absurd (role-differs register wire (rw (decode-enabled f k) at e) (λ z. cc)))
 
--- the variables that a wire uses stand two bytes apart
-pub use-number : (t : List ℕ) (at k : ℕ) → k + 1 < wireUses (decode (fieldsAt t at))
+-- the variables that a record uses stand two bytes apart
+pub use-number : (t : List ℕ) (at k : ℕ) → k < length (uses (decode (fieldsAt t at)))
     → u16At t (at + 4 + k * 2) ≡ getD (uses (decode (fieldsAt t at))) k 0
 use-number t at k h =
     by-kind (f .kind)
-    (λ e. absurd (none (rw (decode-input f e) at h)))
-    (λ e. absurd (one k (rw (decode-constant f e) at h)))
+    (λ e. absurd (not-suc-le-zero (rw (decode-input f e) at h)))
+    (λ e. absurd (not-suc-le-zero (rw (decode-constant f e) at h)))
     (λ e. rw (decode-operator f e) (two k (rw (decode-operator f e) at h)))
     (λ e. rw (decode-multiplexer f e) (three k (rw (decode-multiplexer f e) at h)))
-    (λ e. absurd (none (rw (decode-register f e) at h)))
-    (λ e. absurd (none (rw (decode-enabled f e) at h)))
+    (λ e. rw (decode-register f e) (one k (rw (decode-register f e) at h)))
+    (λ e. rw (decode-enabled f e) (two k (rw (decode-enabled f e) at h)))
   where
     f : Fields
     f = fieldsAt t at
 
-    none : k + 1 < 0 → ⊥
-    none h = omega arith
+    one : (k : ℕ) → k < 1 → u16At t (at + 4 + k * 2) ≡ getD (f .a ∷ []) k 0
+    one zero h = ap (u16At t) (omega arith)
+    one (suc k) h = absurd (omega arith)
 
-    one : (k : ℕ) → k + 1 < 1 → ⊥
-    one k h = omega arith
-
-    two : (k : ℕ) → k + 1 < 3 → u16At t (at + 4 + k * 2) ≡ getD (f .a ∷ f .b ∷ []) k 0
+    two : (k : ℕ) → k < 2 → u16At t (at + 4 + k * 2) ≡ getD (f .a ∷ f .b ∷ []) k 0
     two zero h = ap (u16At t) (omega arith)
     two (suc zero) h = ap (u16At t) (omega arith)
     two (suc (suc k)) h = absurd (omega arith)
 
-    three : (k : ℕ) → k + 1 < 4 → u16At t (at + 4 + k * 2) ≡ getD (f .a ∷ f .b ∷ f .c ∷ []) k 0
+    three : (k : ℕ) → k < 3 → u16At t (at + 4 + k * 2) ≡ getD (f .a ∷ f .b ∷ f .c ∷ []) k 0
     three zero h = ap (u16At t) (omega arith)
     three (suc zero) h = ap (u16At t) (omega arith)
     three (suc (suc zero)) h = ap (u16At t) (omega arith)
@@ -129,6 +149,16 @@ register-test f =
     (λ e. rw (decode-multiplexer f e, e))
     (λ e. rw (decode-register f e, e))
     (λ h. rw (decode-enabled f h) (le-leb 4 (f .kind) (omega arith)))
+
+pub input-test : (f : Fields) → eqb (f .kind) 0 ≡ isInput (inputOf (decode f))
+input-test f =
+    by-kind (f .kind)
+    (λ e. rw (decode-input f e, e))
+    (λ e. rw (decode-constant f e, e))
+    (λ e. rw (decode-operator f e, e))
+    (λ e. rw (decode-multiplexer f e, e))
+    (λ e. rw (decode-register f e, e))
+    (λ h. rw (decode-enabled f h) (ne-eqb (f .kind) 0 (λ e. omega arith)))
 
 register-kind : (f : Fields) → role (decode f) ≡ register → 4 ≤ f .kind
 register-kind f e = leb-true 4 (f .kind) (register-test f ∙ rw (e, isRegister))

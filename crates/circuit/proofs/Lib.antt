@@ -1,4 +1,5 @@
 pub mod Bytes
+pub mod Words
 pub mod Passing
 pub mod Lookups
 pub mod Operators

@@ -4,9 +4,9 @@
 use mathlib.Core.Path.{_≡_, refl, sym, ap, _∙_}
 use mathlib.Core.Bool.{Bool, true, false, not, _&&_, _||_}
 use mathlib.Core.List.{List, [], _∷_}
-use Prim.Native.Nat.{ℕ, zero, suc, _+_, _^_, _<_}
+use Prim.Native.Nat.{ℕ, zero, suc, _+_, _<_}
 use native.Mathlib.Omega.{arith}
-use borrow.Author.Tests.{eqb-true, le-ltb, lt-leb, ne-eqb, ltb-false, not-false}
+use borrow.Author.Tests.{eqb-true, ltb-false, not-false}
 use lib.Dec.{eqb, ltb}
 use lib.ListN.{getD}
 use Rattle.net.specs.declared.Stimulus.{Stimulus}
@@ -34,7 +34,7 @@ use Rattle.circuit.proofs.Lookups.{in-order, kind-is, operator-is, inpu
 use Rattle.circuit.proofs.Operators.{code-reads}
 use Rattle.circuit.proofs.Decoding.{by-kind, decode-input, decode-constant, decode-operator, decode-multiplexer, decode-register, decode-enabled}
 use Rattle.circuit.proofs.Stimuli.{both-true}
-use Rattle.circuit.proofs.Records.{Valid, decode-encode, both-false, read-valid, accepted}
+use Rattle.circuit.proofs.Records.{Valid, decode-encode, both-false, read-valid, valid-read}
 
 -- ---- one byte
 
@@ -148,7 +148,7 @@ module _ (f : Fields) (n : ℕ) (v : Valid f n) where
       rw e (same-fields k d (z 2) (z 3) (z 4) (z 5) (z 0) (z 1))
   input-encoded (suc (suc (suc code))) k d h = absurd (omega arith)
 
-  fields-encoded : f ≡ encode (decode f)
+  pub fields-encoded : f ≡ encode (decode f)
   fields-encoded =
       by-kind (f .kind)
       (λ k. input-encoded (f .code) k refl (rw k at (v .code)))
@@ -173,12 +173,6 @@ module _ (f : Fields) (n : ℕ) (v : Valid f n) where
       let z = zeros _ (decode-enabled f h) in
       let few : f .code < 1 = rw k at (v .code) in
       rw (decode-enabled f h) (same-fields k (omega arith) refl refl (z 2) refl (z 0) (z 1)))
-
-  valid-read : readRecord f n ≡ read-record.Read (decode f)
-  valid-read =
-      sym (accepted f n (v .kind)
-      (rw (ne-eqb (f .width) 0 (λ e. omega (arith, v .width-least))) (le-ltb 32 (f .width) (v .width-most)))
-      (lt-leb _ (f .code) (v .code)) (v .zeros) (v .variables) (lt-leb (2 ^ f .width) (f .value) (v .value)))
 
 -- fields read as a record exactly where they are its numbers and no ground from 5 to 10 holds of them
 pub record-read : (f : Fields) (n : ℕ) (r : Record)

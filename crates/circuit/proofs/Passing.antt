@@ -4,7 +4,8 @@
 use mathlib.Core.Path.{_≡_, refl, sym, ap, _∙_}
 use mathlib.Core.Bool.{Bool, true, false}
 use mathlib.Core.List.{List, [], _∷_}
-use Prim.Native.Nat.{ℕ, _*_, _/_, _≤_}
+use Prim.Native.Nat.{ℕ, _*_, _/_, _^_, _≤_, _<_}
+use native.Mathlib.Nat.{mul-le-mul-left, mul-le-mul-right}
 use native.Mathlib.Omega.{arith}
 use borrow.Author.Tests.{ltb-false}
 use lib.Dec.{ltb}
@@ -29,6 +30,14 @@ refuse-passed ground place false next e = (refl, e)
 
 pub length-most : (bytes : ℕ) → checkLength bytes ≡ Passed → bytes ≤ 65536
 length-most bytes e = ltb-false 65536 bytes (refuse-passed TableTooLong 0 (ltb 65536 bytes) _ e .0)
+
+-- so much a record of a table that is not too long
+pub few-each : (bytes each : ℕ) → bytes ≤ 65536 → each ≤ 256 → bytes / 16 * each < 2 ^ 64
+few-each bytes each h k =
+    omega (arith, mul-le-mul-right each (div-most bytes h), mul-le-mul-left 4096 k)
+  where
+    div-most : (b : ℕ) → b ≤ 65536 → b / 16 ≤ 4096
+    div-most b l = omega arith
 
 output-lent : (lent asked : ℕ) → checkOutput lent asked ≡ Passed → asked ≤ lent
 output-lent lent asked e = ltb-false lent asked (refuse-passed OutputShort 0 (ltb lent asked) Passed e .0)

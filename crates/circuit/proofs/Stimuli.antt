@@ -7,7 +7,7 @@ use mathlib.Core.List.{List}
 use Prim.Native.Nat.{ℕ, zero, suc, _+_, _*_, _/_, _%_, _^_, _<_, _≤_}
 use native.Mathlib.Decide.{ℕ-discrete}
 use native.Mathlib.Omega.{arith}
-use borrow.Author.Tests.{ltb-true, leb-false, not-false}
+use borrow.Author.Tests.{ltb-true, ltb-false, leb-false, eqb-true, eq-eqb, le-ltb, not-false}
 use lib.Dec.{eqb, leb, ltb}
 use lib.ListN.{length}
 use Rattle.net.specs.declared.Stimulus.{Stimulus}
@@ -78,15 +78,16 @@ input-record (Enabled w a b n) e = absurd (let z : _≡_ {A = ℕ} 0 1 = cc in o
 
 module _ (c : Circuit) where
   -- whether a stimulus passes does not depend on its place
-  passed-anywhere : (x : Stimulus) (i : ℕ) → checkStimulus c (Read x) i ≡ Passed → checkStimulus c (Read x) 0 ≡ Passed
-  passed-anywhere Tick i e = refl
-  passed-anywhere (Poke v x) i e = let (e15, e16, e17) = poke-tests c v x i e in rw (e15, e16, e17)
+  passed-anywhere : (x : Stimulus) (i j : ℕ) → checkStimulus c (Read x) i ≡ Passed
+      → checkStimulus c (Read x) j ≡ Passed
+  passed-anywhere Tick i j e = refl
+  passed-anywhere (Poke v x) i j e = let (e15, e16, e17) = poke-tests c v x i e in rw (e15, e16, e17)
 
   -- a stimulus that passes has been read
   read-passed : (bad : Bool) (x : Stimulus) (i : ℕ) → checkStimulus c (readFrom bad x) i ≡ Passed
       → (bad ≡ false) × (checkStimulus c (Read x) 0 ≡ Passed)
   read-passed true x i e = absurd (let z : _≡_ {A = ℕ} 0 1 = cc in omega arith)
-  read-passed false x i e = (refl, passed-anywhere x i e)
+  read-passed false x i e = (refl, passed-anywhere x i 0 e)
 
   -- none of grounds 14 to 17 holds of the stimulus at a place
   abbrev pub PassedAt : List ℕ → ℕ → Type 0
@@ -126,3 +127,28 @@ module _ (c : Circuit) where
   unfolding stimuli
   stimuli-accepted s e = accepted-below (λ i. stimulusAt s (i * 8)) (length s / 8)
       (λ i h. stimulus-passed s e i h .1)
+
+  -- the lengths of a list that passes
+  pub stimuli-lengths : (s : List ℕ) → checkStimuli c s ≡ Passed → (length s % 8 ≡ 0) × (length s / 8 ≤ 4096)
+  unfolding checkStimuli
+  stimuli-lengths s e =
+      let (whole, rest) = refuse-passed StimuliNotWhole 0 (not (eqb (length s % 8) 0)) _ e in
+      let (few, last) = refuse-passed TooManyStimuli 0 (ltb 4096 (length s / 8)) _ rest in
+      (eqb-true _ _ (not-false _ whole), ltb-false _ _ few)
+
+  pass-from : (s : List ℕ) (count i : ℕ) → ((j : ℕ) → i ≤ j → j < i + count → PassedAt s (j * 8))
+      → checkStimuliFrom c s count i ≡ Passed
+  unfolding checkStimuliFrom
+  pass-from s zero i h = refl
+  pass-from s (suc count) i h =
+      let (good, passed) = h i (omega arith) (omega arith) in
+      rw (good, passed-anywhere _ 0 i passed)
+      (pass-from s count (i + 1) (λ j low high. h j (omega arith) (omega arith)))
+
+  -- a list of such lengths passes where each of its stimuli does
+  pub stimuli-pass : (s : List ℕ) → length s % 8 ≡ 0 → length s / 8 ≤ 4096
+      → ((i : ℕ) → i < length s / 8 → PassedAt s (i * 8)) → checkStimuli c s ≡ Passed
+  unfolding checkStimuli
+  stimuli-pass s whole few h =
+      rw (eq-eqb (length s % 8) 0 whole, le-ltb 4096 (length s / 8) few)
+      (pass-from s (length s / 8) 0 (λ j low high. h j (omega arith)))

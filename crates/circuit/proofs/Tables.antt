@@ -1,8 +1,8 @@
--- What holds of a table that meets none of grounds 5 to 10: its circuit has its records, and they use its variables
--- alone. A circuit of which that holds, and that has no loop, has a rank; one in which numbers fall along every wire's
--- uses has no loop.
+-- What holds of a table that meets none of grounds 5 to 10: its records pass, its circuit has them, and they use its
+-- variables alone. A circuit of which that holds, and that has no loop, has a rank; one in which numbers fall along
+-- every wire's uses has no loop.
 -- Assumes nothing.
-use mathlib.Core.Path.{_≡_, refl, subst}
+use mathlib.Core.Path.{_≡_, refl, sym, ap, _∙_, subst}
 use mathlib.Core.Logic.{⊎-elim}
 use mathlib.Core.Bool.{Bool, _&&_, _||_}
 use mathlib.Core.List.{List}
@@ -24,11 +24,12 @@ use Rattle.circuit.specs.declared.record.ReadRecord.{ReadRecord}
 use Rattle.circuit.specs.declared.record.ReadRecord.the-variants.{Read, Refused}
 use Rattle.circuit.specs.declared.record.Record.{Record}
 use Rattle.circuit.specs.Record.{uses, role, isRegister}
-use Rattle.circuit.specs.Reading.{fieldsAt, decode, readRecord}
+use Rattle.circuit.specs.Reading.{fieldsAt, decode, encode, readRecord}
 use Rattle.circuit.specs.Circuit.{Circuit, circuit, recordOf, graph, NoLoop}
 use Rattle.circuit.specs.Checks.{atRecord, checkRecordsFrom, checkRecords}
 use Rattle.circuit.proofs.Passing.{then-passed}
-use Rattle.circuit.proofs.Records.{Valid, read-valid}
+use Rattle.circuit.proofs.Records.{Valid, read-valid, valid-read}
+use Rattle.circuit.proofs.Numbers.{fields-encoded}
 
 -- ---- the records
 
@@ -55,6 +56,20 @@ pub records-valid : (t : List ℕ) (n : ℕ) → checkRecords t n ≡ check.Pass
 unfolding checkRecords
 records-valid t n e i h = valid-from t n n 0 e i (omega arith) (omega arith)
 
+passed-from : (t : List ℕ) (n count i : ℕ) → ((j : ℕ) → i ≤ j → j < i + count → Valid (fieldsAt t (j * 16)) n)
+    → checkRecordsFrom t n count i ≡ check.Passed
+unfolding checkRecordsFrom
+passed-from t n zero i h = refl
+passed-from t n (suc count) i h =
+    rw (valid-read (fieldsAt t (i * 16)) n (h i (omega arith) (omega arith)))
+    (passed-from t n count (i + 1) (λ j low high. h j (omega arith) (omega arith)))
+
+-- where no ground from 5 to 10 holds of any record, all pass
+pub records-pass : (t : List ℕ) (n : ℕ) → ((i : ℕ) → i < n → Valid (fieldsAt t (i * 16)) n)
+    → checkRecords t n ≡ check.Passed
+unfolding checkRecords
+records-pass t n h = passed-from t n n 0 (λ j low high. h j (omega arith))
+
 -- ---- the circuit
 
 pub circuit-length : (t : List ℕ) (n : ℕ) → length (circuit t n) ≡ n
@@ -64,6 +79,16 @@ circuit-length t n = length-listBelow _ n
 pub circuit-record : (t : List ℕ) (n i : ℕ) → i < n → recordOf (circuit t n) i ≡ decode (fieldsAt t (i * 16))
 unfolding circuit
 circuit-record t n i h = getD-listBelow _ n i _ h
+
+module _ (t : List ℕ) (n : ℕ) (e : checkRecords t n ≡ check.Passed) (v : ℕ) (h : v < n) where
+  -- the numbers of a record that passed are its fields
+  pub record-encoded : encode (recordOf (circuit t n) v) ≡ fieldsAt t (v * 16)
+  record-encoded =
+      ap encode (circuit-record t n v h) ∙ sym (fields-encoded (fieldsAt t (v * 16)) n (records-valid t n e v h))
+
+  -- and no ground holds of them
+  pub encoded-valid : Valid (encode (recordOf (circuit t n) v)) n
+  encoded-valid = rw record-encoded (records-valid t n e v h)
 
 -- every variable that a record of the circuit uses is one of the circuit's
 abbrev pub Inside : Circuit → Type 0

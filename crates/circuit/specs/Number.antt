@@ -12,6 +12,10 @@ u16At t at = getD t at 0 + 256 * getD t (at + 1) 0
 abbrev pub u32At : List ℕ → ℕ → ℕ
 u32At t at = getD t at 0 + 256 * getD t (at + 1) 0 + 65536 * getD t (at + 2) 0 + 16777216 * getD t (at + 3) 0
 
+-- the two bytes of a number
+abbrev pub u16Bytes : ℕ → List ℕ
+u16Bytes n = n % 256 ∷ n / 256 % 256 ∷ []
+
 -- the four bytes of a number
 abbrev pub u32Bytes : ℕ → List ℕ
 u32Bytes n = n % 256 ∷ n / 256 % 256 ∷ n / 65536 % 256 ∷ n / 16777216 % 256 ∷ []

@@ -1,7 +1,7 @@
 -- A record from its 16 bytes and the number of records: its fields, what they read as, and grounds 5 to 10 in order.
 -- Assumes nothing.
 use mathlib.Core.Bool.{Bool, true, false, not, _||_}
-use mathlib.Core.List.{List, [], _∷_, map}
+use mathlib.Core.List.{List, [], _∷_, _++_, map}
 use Prim.Native.Nat.{ℕ, _+_, _^_}
 use lib.Dec.{eqb, leb, ltb}
 use lib.ListN.{getD}
@@ -21,7 +21,7 @@ use Rattle.circuit.specs.declared.record.ReadRecord.{ReadRecord}
 use Rattle.circuit.specs.declared.record.ReadRecord.the-variants.{Read, Refused}
 use Rattle.circuit.specs.declared.refusal.Ground.{Ground}
 use Rattle.circuit.specs.declared.refusal.Ground.the-variants.{UnknownKind, BadWidth, UnknownCode, UnusedNotZero, NoSuchVariable, ValueTooWide}
-use Rattle.circuit.specs.Number.{u16At, u32At}
+use Rattle.circuit.specs.Number.{u16At, u32At, u16Bytes, u32Bytes}
 use Rattle.circuit.specs.Operator.{operatorCode, operatorOf}
 use Rattle.circuit.specs.Record.{uses}
 
@@ -108,6 +108,20 @@ encode (Operator w op a b) = fields 2 w (operatorCode op) a b 0 0
 encode (Multiplexer w a b c) = fields 3 w 0 a b c 0
 encode (Register w a n) = fields 4 w 0 a 0 0 n
 encode (Enabled w a b n) = fields 5 w 0 a b 0 n
+
+-- the 16 bytes of fields
+abbrev pub fieldBytes : Fields → List ℕ
+fieldBytes f =
+    (f .kind ∷ f .width ∷ f .code ∷ f .byte3 ∷ [])
+    ++ u16Bytes (f .a)
+    ++ u16Bytes (f .b)
+    ++ u16Bytes (f .c)
+    ++ u16Bytes (f .bytes10)
+    ++ u32Bytes (f .value)
+
+-- the 16 bytes of a record
+abbrev pub recordBytes : Record → List ℕ
+recordBytes r = fieldBytes (encode r)
 
 -- how many values byte 2 has for a kind: three for an input, nine for an operator, otherwise 0 alone
 abbrev pub codes : ℕ → ℕ

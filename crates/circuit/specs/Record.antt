@@ -53,3 +53,12 @@ wireUses r = elim (role r) [ input ↦ 0 | wire ↦ suc (length (uses r)) | regi
 -- whether a record is a register
 abbrev pub isRegister : Record → Bool
 isRegister r = elim (role r) [ input ↦ false | wire ↦ false | register ↦ true ]
+
+-- a record with the variables that it uses renumbered
+abbrev pub renumber : (ℕ → ℕ) → Record → Record
+renumber new (Input w k) = Input w k
+renumber new (Constant w n) = Constant w n
+renumber new (Operator w op a b) = Operator w op (new a) (new b)
+renumber new (Multiplexer w a b c) = Multiplexer w (new a) (new b) (new c)
+renumber new (Register w a n) = Register w (new a) n
+renumber new (Enabled w a b n) = Enabled w (new a) (new b) n

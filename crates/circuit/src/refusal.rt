@@ -22,6 +22,9 @@ pub enum Ground {
     FixedInput,
     TooManySizes,
     SizeTooLarge,
+    NoSuchKept,
+    TrimmedShort,
+    BadCertificate,
 }
 
 // No ground holds, or the first that does, with its place.
@@ -54,5 +57,8 @@ pub fn ground_number(ground: Ground) -> u64
         Ground::FixedInput => 17,
         Ground::TooManySizes => 18,
         Ground::SizeTooLarge => 19,
+        Ground::NoSuchKept => 20,
+        Ground::TrimmedShort => 21,
+        Ground::BadCertificate => 22,
     }
 }

@@ -22,10 +22,20 @@ pub fn wire_uses(t: &[u8], v: usize) -> u16
     ((0x4310u32 >> (kind * 4)) % 16) as u16
 }
 
-// Variable k, counted from 0, of those that wire v uses.
+// The number of variables that record v uses: those of kinds 0 to 5 are 0, 0, 2, 3, 1 and 2.
+pub fn use_count(t: &[u8], v: usize) -> usize
+    requires { ⌜ v * 16 + 16 ≤ length (now t) ⌝ }
+    requires { ⌜ fieldsAt (now t) (v * 16) .kind ≤ 5 ⌝ }
+    ensures { λ r. ⌜ r ≡ length (uses (decode (fieldsAt (now (t .entry)) (v * 16)))) ⌝ }
+{
+    let kind = t[v * 16];
+    ((0x213200u32 >> (kind * 4)) % 16) as usize
+}
+
+// Variable k, counted from 0, of those that record v uses.
 pub fn use_at(t: &[u8], v: usize, k: usize) -> u16
     requires { ⌜ v * 16 + 16 ≤ length (now t) ⌝ }
-    requires { ⌜ k + 1 < wireUses (decode (fieldsAt (now t) (v * 16))) ⌝ }
+    requires { ⌜ k < length (uses (decode (fieldsAt (now t) (v * 16)))) ⌝ }
     ensures { λ r. ⌜ r ≡ getD (uses (decode (fieldsAt (now (t .entry)) (v * 16)))) k 0 ⌝ }
 {
     u16_at(t, v * 16 + 4 + k * 2)

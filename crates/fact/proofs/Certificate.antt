@@ -14,7 +14,7 @@ use lib.Dec.{T, eqb}
 use lib.ListN.{length}
 use Rattle.net.specs.declared.Stimulus.{Stimulus}
 use Rattle.net.specs.Tests.{member}
-use Rattle.net.specs.Net.{input, wire, register, sumRegisters, stopped, Fixpoint, Counts}
+use Rattle.net.specs.Net.{input, wire, register, sumRegisters, after, stopped, Fixpoint, Closed, Counts}
 use Rattle.net.specs.Machine as machine
 use Rattle.net.proofs.Bools.{cond-case, member-1, member-2, member-3}
 use Rattle.net.proofs.Sums.{sumRegisters-scale}
@@ -197,16 +197,22 @@ module _ (c : Circuit) (inside : Inside c) (noLoop : NoLoop c) where
   enough = omega (arith, twice-registers c)
 
   -- every variable of the certificate is what its rule gives
-  certificate-fixpoint : Fixpoint (graph c) (rule c) (certificate c)
+  pub certificate-fixpoint : Fixpoint (graph c) (rule c) (certificate c)
   unfolding certificate initialStore
   certificate-fixpoint = stopped-fixpoint ranked (monotone c) (heights c) (suc (2 * registers c)) enough
 
+  -- after any number of rounds every variable's fact is at or below that of every closed store
+  pub rounds-below-closed : (s : ℕ → Fact) → Closed (graph c) (rule c) _⊑_ s → (k v : ℕ) → v < length c
+      → after (graph c) (rule c) k (initialStore c) v ⊑ s v
+  unfolding initialStore
+  rounds-below-closed s closed k v below = rounds-below ranked (monotone c) s closed k v below
+
   -- demand 2: the certificate is closed, and at or below every closed store at every variable
   pub certificate-least : LeastStore c (certificate c)
-  unfolding certificate stopped initialStore rounds
+  unfolding certificate stopped rounds
   certificate-least = (
     fixpoint-closed ranked (monotone c) (heights c) (certificate c) certificate-fixpoint,
-    λ s closed v below. rounds-below ranked (monotone c) s closed (rounds c) v below,
+    λ s closed v below. rounds-below-closed s closed (rounds c) v below,
   )
 
   -- demand 2: the round after the count changes no register, every earlier one changes some, and they are at most

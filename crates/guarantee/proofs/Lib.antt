@@ -1,3 +1,11 @@
 pub mod Alike
 pub mod TwoRuns
 pub mod Witness
+pub mod Passing
+pub mod TrimmedAccepted
+pub mod Renumbered
+pub mod Trimming
+pub mod Trimmed
+pub mod Renumbering
+pub mod TrimmedCertificate
+pub mod TrimmedWitness

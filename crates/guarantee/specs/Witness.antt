@@ -16,10 +16,11 @@ table =
     ++ (4 ∷ 4 ∷ 0 ∷ 0 ∷ 7 ∷ 0 ∷ 0 ∷ 0 ∷ 0 ∷ 0 ∷ 0 ∷ 0 ∷ 5 ∷ 0 ∷ 0 ∷ 0 ∷ [])
 
 -- the 8 bytes of a poke, its variable and value below 256
-abbrev poke : ℕ → ℕ → List ℕ
+abbrev pub poke : ℕ → ℕ → List ℕ
 poke v x = 0 ∷ 0 ∷ v ∷ 0 ∷ x ∷ 0 ∷ 0 ∷ 0 ∷ []
 
-abbrev tick : List ℕ
+-- the 8 bytes of a tick
+abbrev pub tick : List ℕ
 tick = 1 ∷ 0 ∷ 0 ∷ 0 ∷ 0 ∷ 0 ∷ 0 ∷ 0 ∷ []
 
 -- 1 is poked into the free input, x into the secret one; tick; y into the secret one; tick; 9 into the fixed one, which
@@ -34,7 +35,7 @@ abbrev pub stimuli₂ : List ℕ
 stimuli₂ = stimuliWith 9 200
 
 -- the 8 bytes of a fact, its number below 256
-abbrev cell : ℕ → ℕ → List ℕ
+abbrev pub cell : ℕ → ℕ → List ℕ
 cell byte n = byte ∷ 0 ∷ 0 ∷ 0 ∷ n ∷ 0 ∷ 0 ∷ 0 ∷ []
 
 -- marked, open, always 5, open, open, open, marked; the fixed input and its register open

@@ -8,7 +8,7 @@ use native.Mathlib.Nat.{not-suc-le-zero, le-refl}
 use native.Mathlib.Decide.{decLe}
 use native.Mathlib.Omega.{arith}
 use lib.Dec.{T, eqb, eqb→eq, eqb-refl}
-use Rattle.net.specs.Tests.{allBelow, every, member}
+use Rattle.net.specs.Tests.{allBelow, anyBelow, every, member}
 
 pub T-of : (b : Bool) → b ≡ true → T b
 T-of true e = tt
@@ -85,6 +85,20 @@ fails-below p (suc n) t = go (p n) refl t (fails-below p n)
         → (v : ℕ) × (v < suc n) × T (not (p v))
     go true e t ih = let (v, h, q) = ih t in (v, omega arith, q)
     go false e t ih = (n, le-refl _, rw e tt)
+
+-- a number at which the test passes
+pub passes-below : (p : ℕ → Bool) (n : ℕ) → T (anyBelow p n) → (v : ℕ) × (v < n) × T (p v)
+unfolding anyBelow
+passes-below p zero t = absurd t
+passes-below p (suc n) t =
+    or-cases (p n) (anyBelow p n) t (λ q. (n, le-refl _, q))
+    (λ k. let (v, h, q) = passes-below p n k in (v, omega arith, q))
+
+pub any-of : (p : ℕ → Bool) (n v : ℕ) → v < n → T (p v) → T (anyBelow p n)
+unfolding anyBelow
+any-of p zero v h t = absurd (not-suc-le-zero h)
+any-of p (suc n) v h t =
+    last-or h (λ e. or-left (p n) (anyBelow p n) (rw e at t)) (λ k. or-right (p n) (anyBelow p n) (any-of p n v k t))
 
 -- ---- numbers of a list
 

@@ -8,3 +8,6 @@ pub mod Loops
 pub mod Rounds
 pub mod TwoRuns
 pub mod Machine
+pub mod Chosen
+pub mod Reach
+pub mod Mapped

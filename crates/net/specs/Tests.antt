@@ -10,6 +10,11 @@ unfoldable pub allBelow : (ℕ → Bool) → ℕ → Bool
 allBelow p zero = true
 allBelow p (suc n) = p n && allBelow p n
 
+-- the test passes at some number below n
+unfoldable pub anyBelow : (ℕ → Bool) → ℕ → Bool
+anyBelow p zero = false
+anyBelow p (suc n) = p n || anyBelow p n
+
 -- the test passes at every number of the list
 unfoldable pub every : (ℕ → Bool) → List ℕ → Bool
 every p [] = true

@@ -9,7 +9,7 @@ use Rattle.net.proofs.Bools.{last-or}
 use Rattle.schedule.specs.Walk.{sign, countVisited}
 use Rattle.net.proofs.Put.{put-same, put-other}
 
-sum-same : (f g : ℕ → ℕ) (n : ℕ) → ((x : ℕ) → x < n → g x ≡ f x) → sumBelow g n ≡ sumBelow f n
+pub sum-same : (f g : ℕ → ℕ) (n : ℕ) → ((x : ℕ) → x < n → g x ≡ f x) → sumBelow g n ≡ sumBelow f n
 unfolding sumBelow
 sum-same f g zero h = refl
 sum-same f g (suc n) h = omega (arith, sum-same f g n (λ x l. h x (omega arith)), h n (omega arith))
@@ -49,13 +49,18 @@ pub sign-positive : (x : ℕ) → 0 < x → sign x ≡ 1
 sign-positive zero h = absurd (not-suc-le-zero h)
 sign-positive (suc x) h = refl
 
-visited-most : (state : ℕ → ℕ) (n : ℕ) → countVisited state n ≤ n
+pub visited-most : (state : ℕ → ℕ) (n : ℕ) → countVisited state n ≤ n
 visited-most state n = omega (arith, sum-most (λ v. sign (state v)) 1 n (λ x l. sign-most (state x)))
 
--- an unvisited variable leaves room
-pub visited-less : (state : ℕ → ℕ) (n u : ℕ) → u < n → state u ≡ 0 → countVisited state n < n
-visited-less state n u l z =
+-- an unvisited variable that is visited is one more
+pub visited-more : (state : ℕ → ℕ) (n u : ℕ) → u < n → state u ≡ 0
+    → countVisited (put state u 1) n ≡ countVisited state n + 1
+visited-more state n u l z =
     let after : ℕ → ℕ = put state u 1 in
     let change : countVisited after n + sign (state u) ≡ countVisited state n + sign (after u) =
     sum-change (λ v. sign (state v)) (λ v. sign (after v)) n u l (λ x ne. ap sign (put-other state u 1 x ne)) in
-    omega (arith, change, ap sign z, ap sign (put-same state u 1), visited-most after n)
+    omega (arith, change, ap sign z, ap sign (put-same state u 1))
+
+-- and it leaves room
+pub visited-less : (state : ℕ → ℕ) (n u : ℕ) → u < n → state u ≡ 0 → countVisited state n < n
+visited-less state n u l z = omega (arith, visited-more state n u l z, visited-most (put state u 1) n)

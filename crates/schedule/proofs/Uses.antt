@@ -36,6 +36,10 @@ record-wire r h =
 wire-uses : (r : Record) → role r ≡ wire → wireUses r ≡ suc (length (uses r))
 wire-uses r e = rw (e, wireUses)
 
+-- a wire's use is a use of its record
+wire-use : (r : Record) (k : ℕ) → k + 1 < wireUses r → k < length (uses r)
+wire-use r k h = omega (arith, wire-uses r (record-wire r (omega arith)))
+
 not-both : (r : Record) → 0 < wireUses r → isRegister r ≡ false
 not-both r h = rw (record-wire r h, isRegister)
 
@@ -70,9 +74,7 @@ module _ (c : Circuit) (v : ℕ) where
 
   pub used-uses : (k : ℕ) → k + 1 < last c v → Uses (graph c) v (used c v k)
   unfolding last used
-  used-uses k h =
-      member-getD (uses (recordOf c v)) k
-      (omega (arith, wire-uses (recordOf c v) (record-wire (recordOf c v) (omega arith))))
+  used-uses k h = member-getD (uses (recordOf c v)) k (wire-use (recordOf c v) k h)
 
   pub uses-used : (u : ℕ) → role (recordOf c v) ≡ wire → Uses (graph c) v u
       → (k : ℕ) × (k + 1 < last c v) × (used c v k ≡ u)
@@ -94,3 +96,6 @@ module _ (t : List ℕ) (n v : ℕ) (h : v < n) where
   pub used-decode : (k : ℕ) → used (circuit t n) v k ≡ getD (uses (decode (fieldsAt t (v * 16)))) k 0
   unfolding used
   used-decode k = ap (λ (r : Record). getD (uses r) k 0) (circuit-record t n v h)
+
+  pub use-decode : (k : ℕ) → k + 1 < last (circuit t n) v → k < length (uses (decode (fieldsAt t (v * 16))))
+  use-decode k below = wire-use (decode (fieldsAt t (v * 16))) k (rw last-decode at below)

@@ -12,6 +12,8 @@ use Rattle.circuit.specs.declared.refusal.Check.the-variants.{Passed}
 use Rattle.circuit.specs.Refusal.{groundNumber}
 use Rattle.circuit.specs.Stimuli.{checkStimuli}
 use Rattle.circuit.proofs.Places.{Refusals, refusals-weaken, stimuli-refusals}
+use Rattle.circuit.proofs.Tables.{circuit-length}
+use Rattle.fact.specs.Fact.{factAt}
 use Rattle.call.specs.Call.{Lent, Left, Answer, accepted, refused, Call, lent, left, outputOf, size, circuitOf, checked, Promises}
 use Rattle.call.proofs.Parts.{table-checked, outputs-lent}
 use Rattle.call.proofs.Answers.{row-some, row-most, row-in-scratch, refusal-holds}
@@ -19,11 +21,15 @@ use Rattle.certificate.specs.Promise as certified
 use Rattle.machine.specs.Promise as benched
 use Rattle.bill.specs.Promise.{Bills}
 use Rattle.bill.proofs.Promise.{accepted-small, refused-small}
+use Rattle.trim.specs.Promise as trims
+use Rattle.trim.proofs.Replaced.{replaced-length}
+use Rattle.trim.proofs.Survivors.{survivors-few}
+use Rattle.trim.proofs.Grounds.{trimmable}
 use Rattle.text.specs.Text.{refusalLine, loopLine, refusalText}
 use Rattle.text.specs.Prints.{ShowsRow, AnswerStands, BillStands}
 use Rattle.text.specs.declared.Report.{Report}
 use Rattle.text.specs.declared.Report.the-variants.{Bytes, Line}
-use Rattle.text.specs.Reports.{Tells, Within}
+use Rattle.text.specs.Reports.{Tells, Within, writtenBytes}
 
 module _ (g : Ground) (place : ℕ) (s : List ℕ) where
   pub loop-text : groundNumber g ≡ 11 → refusalText g place s ≡ refusalLine g place ++ loopLine s place
@@ -75,7 +81,35 @@ billed-stands sizes shares shares′ long (accepted k) p =
 billed-stands sizes shares shares′ long (refused g place) p =
     λ is. ⊎-elim (λ e. omega arith) (λ e. omega arith) (refused-small p .0)
 
--- what is told of stands in longer buffers too, an output in its own
+-- what the trimming call writes stands in both of its outputs, and there are at most 4,096 records
+pub trimmed-stands : (certificate kept t trimmed numbers scratch trimmed′ numbers′ scratch′ : List ℕ)
+    → length trimmed′ ≡ length trimmed → length numbers′ ≡ length numbers → (a : Answer)
+    → Promises (trims.trimming certificate kept) (trims.lent t trimmed numbers scratch)
+    (trims.left trimmed′ numbers′ scratch′) a
+    → (writtenBytes a ≤ 65536) × (writtenBytes a ≤ length trimmed′) × (writtenBytes a ≤ length numbers′ * 16)
+trimmed-stands certificate kept t trimmed numbers scratch trimmed′ numbers′ scratch′ long many (accepted k) p =
+    let l = trims.lent t trimmed numbers scratch in
+    let table = table-checked (trims.trimming certificate kept) l (p .past .passed) in
+    let ready = trimmable t (size l) certificate kept (length trimmed) (length numbers) table (p .later) in
+    let few : k ≤ length t / 16 =
+    omega (
+      arith,
+      p .accepts .count,
+      survivors-few (trims.called certificate kept l) kept,
+      replaced-length (circuitOf l) (factAt certificate),
+      circuit-length t (size l),
+    ) in
+    (omega (arith, table .small), omega (arith, ready .trimmed-lent), omega (arith, ready .numbers-lent))
+trimmed-stands certificate kept t trimmed numbers scratch trimmed′ numbers′ scratch′ long many (refused g place) p =
+    (omega arith, omega arith, omega arith)
+
+-- what is told stands in longer buffers too
+pub within-more : (r : Report) (output line longer room : ℕ) → output ≤ longer → line ≤ room → Within r output line
+    → Within r longer room
+within-more (Bytes count) output line longer room h h′ within = omega arith
+within-more (Line r) output line longer room h h′ within = omega arith
+
+-- what is told of an output stands in the output
 pub told-within : (each : ℕ) (a : Answer) (r : Report) (n output scratch line room : ℕ) (out exit : List ℕ)
     → line ≤ room → AnswerStands each a n output scratch → Tells a (n * each) out exit r → Within r (n * each) line
     → Within r output room

@@ -58,6 +58,12 @@ put-whole {text} {entry} {exit} {r} x =
     sym (take-append-drop r exit)
     ∙ ap₂ _++_ (x .kept) (x .stands ∙ ap (λ (l : List ℕ). text ++ l) (drop-length entry) ∙ append-nil text)
 
+-- a text that ends at a place that is the buffer's length
+pub put-to-end : {text entry exit : List ℕ} {from r : ℕ} → from ≡ length entry → Put text entry from exit r
+    → exit ≡ take r entry ++ text
+put-to-end {text} {entry} {exit} {r = r} e x =
+    put-whole (subst (λ (end : ℕ). Put text entry end exit r) e x)
+
 -- one byte more
 pub put-before : {text entry middle exit : List ℕ} {b from p r : ℕ} → Put text entry from middle p
     → Put (b ∷ []) middle p exit r → Put (b ∷ text) entry from exit r

@@ -1,5 +1,5 @@
--- What the programs print: numbers in base ten, the lines of a refusal, of a certificate, of values and of a bill. A
--- text is the list of its bytes, in ASCII; each word below has its characters beside it.
+-- What the programs print: numbers in base ten, the lines of a refusal, of a certificate, of values, of a bill and of
+-- old numbers. A text is the list of its bytes, in ASCII; each word below has its characters beside it.
 -- Assumes nothing.
 use mathlib.Core.Bool.{true, false}
 use mathlib.Core.List.{List, [], _∷_, _++_}
@@ -97,6 +97,10 @@ valueLine v x = decimal v ++ (space ++ (decimal x ++ newline))
 -- the lines of n numbers: the values that a bench run writes, or the shares of an order
 abbrev pub valueLines : List ℕ → ℕ → List ℕ
 valueLines values n = pieces (λ v. valueLine v (getD values v 0)) n 0
+
+-- the lines of n numbers, one a line: the old numbers of a trimmed table's records
+abbrev pub numberLines : List ℕ → ℕ → List ℕ
+numberLines numbers n = pieces (λ i. decimal (getD numbers i 0) ++ newline) n 0
 
 -- the line of a number with a word before it
 abbrev pub numberLine : List ℕ → ℕ → List ℕ

@@ -1,20 +1,23 @@
 // The text that the programs print, made in a lent buffer: numbers in base ten, lines, whole answers. It is put from
 // the buffer's end down, since a number's last digit comes out first; a function answers where the text begins. Numbers
 // that a program is given as words are read in `word`.
-ghost use mathlib.Core.List.{[]};
-ghost use Prim.Native.Nat.{_≤_};
-ghost use lib.ListN.{length};
-ghost use Rattle.call.specs.Call.{lent, left};
+ghost use mathlib.Core.Path.{_≡_};
+ghost use mathlib.Core.List.{[], _++_};
+ghost use Prim.Native.Nat.{_*_, _≤_};
+ghost use lib.ListN.{length, take};
+ghost use Rattle.call.specs.Call.{lent, left, Promises};
 ghost use Rattle.certificate.specs.Promise as certified;
 ghost use Rattle.machine.specs.Promise as benched;
 ghost use Rattle.bill.specs.Promise as billed;
-ghost use Rattle.text.specs.Text.{refusalText, certifiedText, benchedText, billedText, answerText};
+ghost use Rattle.trim.specs.Promise as trims;
+ghost use Rattle.text.specs.Text.{refusalText, certifiedText, benchedText, billedText, answerText, numberLines};
 ghost use Rattle.text.specs.Pieces.{Put};
 ghost use Rattle.text.specs.Prints.{ShowsRow, AnswerStands, BillStands, TextOf, PromisesInText};
-ghost use Rattle.text.specs.Reports.{Tells, Within, PromisesInBytes};
+ghost use Rattle.text.specs.Reports.{TellsRefusal, Tells, Within, BytesOf, PromisesInBytes, writtenBytes};
 use crate::lines::put_facts;
 use crate::lines::put_loop;
 use crate::lines::put_number_line;
+use crate::lines::put_numbers;
 use crate::lines::put_refusal;
 use crate::lines::put_values;
 use bill::Billed;
@@ -25,13 +28,14 @@ use circuit::refusal::Ground;
 use circuit::refusal::ground_number;
 use machine::Benched;
 use machine::bench;
+use trim::Trimmed;
+use trim::trim;
 
 mod lines;
 mod put;
 pub mod word;
 
-// What is told to a program that reads the certificate's own bytes: how many they are, or where a refusal's line
-// begins.
+// What is told to a program that reads a call's own bytes: how many they are, or where a refusal's line begins.
 pub enum Report {
     Bytes(usize),
     Line(usize),
@@ -74,6 +78,15 @@ fn put_certified(
     }
 }
 
+// What is told of a refusal.
+fn report_refusal(line: &mut [u8], ground: Ground, place: usize) -> Report
+    requires { ⌜ 53 ≤ length (now line) ⌝ }
+    ensures { λ r. ⌜ TellsRefusal ground place (now (line .entry)) (now (line .exit)) r ⌝ }
+    ensures { λ r. ⌜ Within r 0 (length (now (line .entry))) ⌝ }
+{
+    Report::Line(put_refusal(line, line.len(), ground, place))
+}
+
 // What is told of the certifying call's answer where the certificate has so many bytes.
 fn put_report(line: &mut [u8], answer: Certified, bytes: usize) -> Report
     requires { ⌜ 53 ≤ length (now line) ⌝ }
@@ -82,9 +95,21 @@ fn put_report(line: &mut [u8], answer: Certified, bytes: usize) -> Report
 {
     match answer {
         Certified::Accepted(_) => Report::Bytes(bytes),
-        Certified::Refused(ground, place) => {
-            Report::Line(put_refusal(line, line.len(), ground, place))
-        }
+        Certified::Refused(ground, place) => report_refusal(line, ground, place),
+    }
+}
+
+// What is told of the trimming call's answer: 16 bytes for each record written.
+fn put_trimmed(line: &mut [u8], answer: Trimmed) -> Report
+    requires { ⌜ 53 ≤ length (now line) ⌝ }
+    requires { ⌜ writtenBytes (trims.answerOf answer) ≤ 65536 ⌝ }
+    ensures { λ r. ⌜ Tells (trims.answerOf answer) (writtenBytes (trims.answerOf answer))
+        (now (line .entry)) (now (line .exit)) r ⌝ }
+    ensures { λ r. ⌜ Within r (writtenBytes (trims.answerOf answer)) (length (now (line .entry))) ⌝ }
+{
+    match answer {
+        Trimmed::Accepted(records) => Report::Bytes(records * 16),
+        Trimmed::Refused(ground, place) => report_refusal(line, ground, place),
     }
 }
 
@@ -182,4 +207,36 @@ pub fn bill_text(sizes: &[u32], shares: &mut [u32], out: &mut [u8; 2048]) -> usi
 {
     let answer = bill(sizes, shares);
     put_billed(out, answer, sizes.len(), shares)
+}
+
+// Trims a table for a program that reads the trimmed table's own bytes. A refusal's line stands in `line` from the
+// place answered up to the end.
+pub fn trim_bytes(
+    table: &[u8],
+    certificate: &[u8],
+    kept: &[u16],
+    trimmed: &mut [u8],
+    numbers: &mut [u16],
+    scratch: &mut [u16],
+    line: &mut [u8; 64],
+) -> Report
+    ensures { λ r. ⌜ BytesOf
+        (Promises (trims.trimming (now (certificate .entry)) (now (kept .entry)))
+        (trims.lent (now (table .entry)) (now (trimmed .entry)) (now (numbers .entry)) (now (scratch .entry)))
+        (trims.left (now (trimmed .exit)) (now (numbers .exit)) (now (scratch .exit))))
+        writtenBytes (now (line .entry)) (now (line .exit)) r ⌝ }
+    ensures { λ r. ⌜ Within r (length (now (trimmed .exit))) 64 × Within r (length (now (numbers .exit)) * 16) 64
+        × (64 ≤ length (now (line .exit))) ⌝ }
+{
+    let answer = trim(table, certificate, kept, trimmed, numbers, scratch);
+    put_trimmed(line, answer)
+}
+
+// Makes the lines of the first n numbers, one a line. They stand in `out` from the place answered up to the end.
+pub fn numbers_text(numbers: &[u16], n: usize, out: &mut [u8; 32768]) -> usize
+    requires { ⌜ (n ≤ 4096) × (n ≤ length (now numbers)) ⌝ }
+    ensures { λ r. ⌜ now (out .exit) ≡ take r (now (out .entry)) ++ numberLines (now (numbers .entry)) n ⌝ }
+    ensures { λ r. ⌜ (r ≤ 32768) × (32768 ≤ length (now (out .exit))) ⌝ }
+{
+    put_numbers(out, 32768, numbers, n)
 }

@@ -1,7 +1,9 @@
-// Lines of what the programs print: a refusal, a loop, a variable's fact or value, a number with a word before it.
+// Lines of what the programs print: a refusal, a loop, a variable's fact or value, a number alone or with a word before
+// it.
 ghost use Prim.Native.Nat.{_+_, _-_, _*_, _≤_, _<_};
 ghost use lib.ListN.{length};
-ghost use Rattle.text.specs.Text.{refusalLine, pieces, spaced, loopLine, factText, factLine, factLines, valueLine, valueLines, numberLine};
+ghost use Rattle.text.specs.Text.{refusalLine, pieces, spaced, loopLine};
+ghost use Rattle.text.specs.Text.{factText, factLine, factLines, valueLine, valueLines, numberLine, numberLines};
 ghost use Rattle.text.specs.Pieces.{Put};
 use crate::put::put_byte;
 use crate::put::put_number;
@@ -124,4 +126,19 @@ pub fn put_number_line(out: &mut [u8], at: usize, word: &[u8], k: u32) -> usize
     let end = put_byte(out, at, 10);
     let p = put_number(out, end, k as u64);
     put_word(out, p, word)
+}
+
+// The lines of n numbers, one a line: the old numbers of a trimmed table's records.
+pub fn put_numbers(out: &mut [u8], at: usize, numbers: &[u16], n: usize) -> usize
+    requires { ⌜ (n ≤ length (now numbers)) × (n * 6 ≤ at) × (at ≤ length (now out)) ⌝ }
+    ensures { λ r. ⌜ Put (numberLines (now (numbers .entry)) n) (now (out .entry)) at (now (out .exit)) r ⌝ }
+{
+    let mut i = n;
+    let mut p = at;
+    while i > 0 {
+        i -= 1;
+        let line_end = put_byte(out, p, 10);
+        p = put_number(out, line_end, wide(numbers[i]) as u64);
+    }
+    p
 }

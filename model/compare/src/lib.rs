@@ -24,6 +24,21 @@ extern "C" {
     ) -> u64;
 
     fn lambdac_bill(sizes: *const u32, sizes_len: usize, shares: *mut u32, shares_len: usize) -> u64;
+
+    fn lambdac_trim(
+        table: *const u8,
+        table_len: usize,
+        certificate: *const u8,
+        certificate_len: usize,
+        kept: *const u16,
+        kept_len: usize,
+        trimmed: *mut u8,
+        trimmed_len: usize,
+        numbers: *mut u16,
+        numbers_len: usize,
+        scratch: *mut u16,
+        scratch_len: usize,
+    ) -> u64;
 }
 
 /// The archive's certifying call: the count of rounds, or the refusal.
@@ -64,6 +79,40 @@ pub fn bench(table: &[u8], stimuli: &[u8], values: &mut [u32], scratch: &mut [u1
 pub fn bill(sizes: &[u32], shares: &mut [u32]) -> Result<u32, Refusal> {
     // SAFETY: each pointer and length are those of one slice, and borrowed slices do not overlap.
     unpacked(unsafe { lambdac_bill(sizes.as_ptr(), sizes.len(), shares.as_mut_ptr(), shares.len()) })
+}
+
+/// The archive's trimming call: the number of records written, or the refusal.
+pub fn trim(
+    table: &[u8],
+    certificate: &[u8],
+    kept: &[u16],
+    trimmed: &mut [u8],
+    numbers: &mut [u16],
+    scratch: &mut [u16],
+) -> Result<u32, Refusal> {
+    // SAFETY: each pointer and length are those of one slice, and a slice lent to be written overlaps none.
+    let answer = unsafe {
+        lambdac_trim(
+            table.as_ptr(),
+            table.len(),
+            certificate.as_ptr(),
+            certificate.len(),
+            kept.as_ptr(),
+            kept.len(),
+            trimmed.as_mut_ptr(),
+            trimmed.len(),
+            numbers.as_mut_ptr(),
+            numbers.len(),
+            scratch.as_mut_ptr(),
+            scratch.len(),
+        )
+    };
+    unpacked(answer)
+}
+
+/// The refusal as it is unpacked: a place above 2^32 - 1, which only a kept list can have, is packed as that.
+pub fn as_packed(refusal: Refusal) -> Refusal {
+    Refusal { place: refusal.place.min(u32::MAX as usize), ..refusal }
 }
 
 /// The number of an accepted call; or the refusal, which is packed as ground * 2^32 + place.

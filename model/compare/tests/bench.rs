@@ -33,8 +33,8 @@ fn bench_on(table: &[u8], stimuli: &[u8], lengths: Lengths) -> Result<(), Refusa
     held_to_model(
         Inputs { table, stimuli, ..Inputs::default() },
         &Buffers::new(lengths, widened),
-        |values, scratch| compare::bench(table, stimuli, values, scratch),
-        |values, scratch| model::bench(table, stimuli, values, scratch),
+        |lent| compare::bench(table, stimuli, lent.output, lent.scratch),
+        |lent| model::bench(table, stimuli, lent.output, lent.scratch),
     )
 }
 

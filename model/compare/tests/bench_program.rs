@@ -13,27 +13,10 @@ use common::shapes::{chain, random_pair, register_ring};
 use common::tables::{damage, pokes_of_fixed, random_stimuli};
 use common::{bench_longer, cases, constant, poke_bytes, Random, MOST_RECORDS, MOST_STIMULI, TICK};
 use model::read_records;
-use programs::{assert_complains, assert_prints, run, TABLES_AROUND_THE_LONGEST};
-use std::fs;
-use std::path::{Path, PathBuf};
-
-/// The folder of one test, for the files that the program reads.
-struct Folder(PathBuf);
+use programs::{assert_complains, assert_prints, run, Folder, TABLES_AROUND_THE_LONGEST};
+use std::path::PathBuf;
 
 impl Folder {
-    fn of_test(name: &str) -> Folder {
-        let folder = Path::new(env!("CARGO_TARGET_TMPDIR")).join("bench program").join(name);
-        fs::create_dir_all(&folder).expect("the folder can be made");
-        Folder(folder)
-    }
-
-    /// The path of the file with this name and these bytes.
-    fn file(&self, name: &str, bytes: &[u8]) -> PathBuf {
-        let path = self.0.join(name);
-        fs::write(&path, bytes).expect("the file can be written");
-        path
-    }
-
     /// All that the program prints for a table and a list of stimuli.
     fn output(&self, table: &[u8], stimuli: &[u8]) -> String {
         let files = [self.file("table", table), self.file("stimuli", stimuli)];
@@ -192,9 +175,7 @@ fn files_that_cannot_be_read() {
     let table = folder.file("table", one_of_each().as_flattened());
     let refused_tables = [folder.file("part of a record", &[0; 17]), folder.file("too long", &[0; 65_552])];
     let list = folder.file("stimuli", &TICK);
-    let unreadable =
-        [folder.0.join("missing"), folder.0.clone(), table.join("below a file"), PathBuf::new()];
-    for path in unreadable {
+    for path in folder.unreadable() {
         assert_complains("bench", &[path.clone(), list.clone()]);
         assert_complains("bench", &[path.clone(), path.clone()]);
         for table in refused_tables.iter().chain([&table]) {

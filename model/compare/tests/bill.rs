@@ -20,8 +20,8 @@ fn bill_on(sizes: &[u32], lengths: Lengths) -> Result<u32, Refusal> {
     held_to_model(
         Inputs { sizes, ..Inputs::default() },
         &Buffers::new(lengths, widened),
-        |shares, _| bill_added_up(sizes, shares),
-        |shares, _| model::bill(sizes, shares),
+        |lent| bill_added_up(sizes, lent.output),
+        |lent| model::bill(sizes, lent.output),
     )
 }
 
@@ -37,7 +37,7 @@ fn bill_added_up(sizes: &[u32], shares: &mut [u32]) -> Result<u32, Refusal> {
 
 /// What is asked for an order.
 fn asked(sizes: &[u32]) -> Lengths {
-    Lengths { output: sizes.len(), scratch: 0, margin: 3 }
+    Lengths { output: sizes.len(), numbers: 0, scratch: 0, margin: 3 }
 }
 
 /// What the archive answers on shares as long as asked, held against the model.

@@ -11,27 +11,8 @@ use common::orders::{
 };
 use common::printed::printed_bill;
 use common::{cases, Random};
-use programs::{assert_complains, run};
-use std::ffi::OsString;
-use std::os::unix::ffi::OsStringExt;
+use programs::{assert_complains, no_numbers, run, TOO_WIDE};
 use std::path::PathBuf;
-
-/// Words that are no numbers, among them digits of other scripts.
-const NO_NUMBERS: [&str; 21] = [
-    "", "x", "12x", "x12", "1x2", "-5", "-0", "+5", " 7", "7 ", "1 2", "7\n", "\n7", "1\n2", "0x10", "1.0",
-    "1_000", "1,000", "\u{667}", "\u{ff17}", "--help",
-];
-
-/// Numbers of more than 32 bits, most of them with a size in their low bits.
-const TOO_WIDE: [&str; 7] = [
-    "4294967296",
-    "4294967297",
-    "0000000004294967297",
-    "8589934593",
-    "18446744073709551617",
-    "340282366920938463463374607431768211457",
-    "99999999999999999999999999",
-];
 
 /// All that the program prints for these words.
 fn output(words: &[PathBuf]) -> String {
@@ -142,8 +123,7 @@ fn assert_complains_of(word: PathBuf) {
 
 #[test]
 fn words_that_are_no_numbers() {
-    NO_NUMBERS.into_iter().for_each(|word| assert_complains_of(word.into()));
-    assert_complains_of(OsString::from_vec(vec![b'7', 255]).into());
+    no_numbers().for_each(assert_complains_of);
 }
 
 #[test]

@@ -25,8 +25,8 @@ fn certify_on(table: &[u8], lengths: Lengths) -> Result<u32, Refusal> {
     held_to_model(
         Inputs { table, ..Inputs::default() },
         &Buffers::new(lengths, |number| number as u8),
-        |certificate, scratch| compare::certify(table, certificate, scratch),
-        |certificate, scratch| model::certify(table, certificate, scratch),
+        |lent| compare::certify(table, lent.output, lent.scratch),
+        |lent| model::certify(table, lent.output, lent.scratch),
     )
 }
 

@@ -1,5 +1,5 @@
-//! The commands bin/certify, bin/bench and bin/bill, by lines of a shell in the repository's root: the exit
-//! status, and whether anything stands on standard output and on standard error.
+//! The commands bin/certify, bin/bench, bin/bill and bin/trim, by lines of a shell in the repository's root: the
+//! exit status, and whether anything stands on standard output and on standard error.
 
 use std::process::Command;
 
@@ -42,11 +42,65 @@ fn statuses() {
     }
 }
 
+/// The lines name the command with and without --numbers, and an example's table and certificate.
+#[test]
+fn statuses_of_trim() {
+    for (line, status, printed) in [
+        ("$trim $table $certificate 43 11", 0, OUTPUT),
+        ("$trim $table $certificate", 0, OUTPUT),
+        ("$trim $table $certificate 0043 11 11 0 {0..43}", 0, OUTPUT),
+        ("$trim /dev/stdin $certificate 43 < $table", 0, OUTPUT),
+        ("cat $certificate | $trim $table /dev/stdin 43", 0, OUTPUT),
+        ("$trim <(cat $table) <(cat $certificate) 43", 0, OUTPUT),
+        ("trim=\"../../$trim\"; cd examples/trimmed_core; $trim table certificate 43", 0, OUTPUT),
+        ("$trim /dev/null /dev/null", 0, (false, false)),
+        ("$trim /dev/null /dev/null > /dev/full", 0, (false, false)),
+        ("$trim $table $certificate 44", 1, ERRORS),
+        ("$trim $table $certificate 43 65535", 1, ERRORS),
+        ("$trim $table $certificate {0..999}", 1, ERRORS),
+        ("$trim $table $certificate 44 > /dev/full", 1, ERRORS),
+        ("$trim $table /dev/null", 1, ERRORS),
+        ("$trim $table $table", 1, ERRORS),
+        ("$trim $certificate $certificate", 1, ERRORS),
+        ("$trim <(cat $table $table $table) $certificate 43", 1, ERRORS),
+        ("$trim /dev/zero /dev/zero", 1, ERRORS),
+        ("$trim /dev/null /dev/null 0", 1, ERRORS),
+        ("$trim examples/latch_loop/table /dev/null", 1, ERRORS),
+        ("$trim $table $certificate 65536", 2, ERRORS),
+        ("$trim $table $certificate -1", 2, ERRORS),
+        ("$trim $table $certificate +1", 2, ERRORS),
+        ("$trim $table $certificate '4 3'", 2, ERRORS),
+        ("$trim $table $certificate $'43\\n'", 2, ERRORS),
+        ("$trim $table $certificate 43 --numbers", 2, ERRORS),
+        ("$trim --numbers --numbers $table $certificate", 2, ERRORS),
+        ("$trim --number $table $certificate", 2, ERRORS),
+        ("$trim - $certificate < $table", 2, ERRORS),
+        ("$trim $table $certificate 43 > /dev/full", 2, ERRORS),
+        ("$trim $table $certificate 43 >&-", 2, ERRORS),
+    ] {
+        for command in ["bin/trim", "bin/trim --numbers"] {
+            let names = "table=examples/trimmed_core/table certificate=examples/trimmed_core/certificate";
+            assert_ends(&format!("trim='{command}' {names}; {line}"), status, printed);
+        }
+    }
+}
+
 #[test]
 fn neither_could_be_said() {
     let calls = ["bin/certify", "bin/certify --bytes", "bin/bench examples/case_a/table"];
     let bills = ["bin/bill", "bin/bill 201", "bin/bill 4097", "bin/bill {1..65}"];
-    for call in calls.into_iter().chain(bills) {
+    let trims = [
+        "bin/trim",
+        "bin/trim --numbers",
+        "bin/trim examples/case_a/table",
+        "bin/trim --numbers examples/case_a/table",
+        "bin/trim no_such_file examples/case_a/certificate",
+        "bin/trim examples/case_a/table examples/case_a/certificate",
+        "bin/trim --numbers examples/case_a/table examples/case_a/certificate 6",
+        "bin/trim examples/case_a/table examples/case_a/certificate 7",
+        "bin/trim examples/latch_loop/table /dev/null",
+    ];
+    for call in calls.into_iter().chain(bills).chain(trims) {
         for rest in ["no_such_file", "examples", "''", "a b c", "--help"] {
             assert_ends(&format!("{call} {rest}"), 2, ERRORS);
         }
@@ -70,6 +124,8 @@ fn neither_could_be_said() {
         "bin/bill 201 > /dev/full",
         "bin/bill 201 >&-",
         "bin/bill 4097 > /dev/full",
+        "bin/trim",
+        "bin/trim --numbers",
     ] {
         assert_ends(line, 2, ERRORS);
     }

@@ -1,8 +1,9 @@
-//! A table and a list of stimuli that meet a given set of grounds, on one record of each sort; and an order
-//! that does.
+//! A table and a list of stimuli that meet a given set of grounds, on one record of each sort; what is given to
+//! a trimming call that does, likewise; and an order that does.
 
 use super::orders::{LARGEST_SIZE, MOST_SIZES};
 use super::samples::{changed, one_of_each, CONSTANT, FIXED, FREE, OPERATOR};
+use super::trims::{certificate_of, Given};
 use super::{poke_bytes, StimulusBytes, MOST_RECORDS, MOST_STIMULI, TICK};
 
 /// A table that meets each of these grounds among 1, 2 and 5 to 11. Its register at this place, with an enable
@@ -83,4 +84,111 @@ pub fn order_that_meets(meets: impl Fn(u32) -> bool, place: usize) -> Vec<u32> {
         sizes[place] = LARGEST_SIZE + 1;
     }
     sizes
+}
+
+/// The grounds that a trimming call tries, in their order.
+pub const TRIM_GROUNDS: [u32; 13] = [1, 2, 4, 5, 6, 7, 8, 9, 10, 11, 20, 21, 22];
+
+/// What ground 22 turns away: a certificate that is too short or too long by a byte; a variable with 0, or with
+/// a byte above the last fact's, in the place of a fact; one that is always a number too wide for it.
+#[derive(Debug, Clone, Copy)]
+pub enum CertificateFault {
+    Short,
+    Long,
+    FactZero,
+    FactFour,
+    TooWide,
+}
+
+impl CertificateFault {
+    pub const ALL: [CertificateFault; 5] = [
+        CertificateFault::Short,
+        CertificateFault::Long,
+        CertificateFault::FactZero,
+        CertificateFault::FactFour,
+        CertificateFault::TooWide,
+    ];
+}
+
+/// How, or where, a trimming call on one record of each sort meets those of its grounds that can be met in
+/// several ways or at several places.
+#[derive(Debug, Clone, Copy)]
+pub struct TrimFaults {
+    /// The register that meets 5 to 10.
+    pub register: usize,
+    /// The place in the kept list that meets 20.
+    pub kept: usize,
+    /// Whether the trimmed table, and whether the list of numbers, is short for 21.
+    pub short: [bool; 2],
+    /// What meets 22, and the variable, if it is a fault of one.
+    pub certificate: CertificateFault,
+    pub variable: usize,
+}
+
+impl TrimFaults {
+    /// The first of these grounds, which are met, and its place.
+    pub fn first(&self, meets: impl Fn(u32) -> bool) -> Option<(u32, usize)> {
+        let ground = TRIM_GROUNDS.into_iter().find(|&ground| meets(ground))?;
+        let place = match (ground, self.certificate) {
+            (5..=10, _) => self.register,
+            (11, _) => 1,
+            (20, _) => self.kept,
+            (22, CertificateFault::FactZero | CertificateFault::FactFour | CertificateFault::TooWide) => {
+                self.variable
+            }
+            _ => 0,
+        };
+        Some((ground, place))
+    }
+
+    /// What meets each of these grounds but 4 and 21, which are about the buffers.
+    pub fn given(&self, meets: impl Fn(u32) -> bool) -> Given {
+        let certificate = if meets(22) { self.wrong_certificate() } else { certificate_of_each() };
+        let (table, kept) = (table_that_meets(&meets, self.register), kept_that_meets(&meets, self.kept));
+        Given { table, certificate, kept }
+    }
+
+    /// By how much the trimmed table and the list of numbers are too short.
+    pub fn missing(&self, meets: impl Fn(u32) -> bool) -> [usize; 2] {
+        self.short.map(|is_short| usize::from(is_short && meets(21)))
+    }
+
+    /// The certificate with the fault. Behind a variable that has one, no other has a fact either.
+    fn wrong_certificate(&self) -> Vec<u8> {
+        let mut certificate = certificate_of_each();
+        // Every variable is of width 4.
+        let fault: &[u8] = match self.certificate {
+            CertificateFault::Short => {
+                certificate.pop();
+                return certificate;
+            }
+            CertificateFault::Long => {
+                certificate.push(1);
+                return certificate;
+            }
+            CertificateFault::FactZero => &[0, 0, 0, 0, 0, 0, 0, 0],
+            CertificateFault::FactFour => &[4, 0, 0, 0, 0, 0, 0, 0],
+            CertificateFault::TooWide => &[1, 0, 0, 0, 16, 0, 0, 0],
+        };
+        certificate[self.variable * 8..].fill(255);
+        certificate[self.variable * 8..][..8].copy_from_slice(fault);
+        certificate
+    }
+}
+
+/// The certificate of one record of each sort.
+fn certificate_of_each() -> Vec<u8> {
+    certificate_of(one_of_each().as_flattened())
+}
+
+/// Every variable kept, again and again. For ground 20 the number at this place is the first that is not below
+/// the number of records, and those behind it are larger still.
+fn kept_that_meets(meets: impl Fn(u32) -> bool, place: usize) -> Vec<u16> {
+    let n = one_of_each().len() as u16;
+    let mut kept: Vec<u16> = (0..n).cycle().take(place + usize::from(n)).collect();
+    if meets(20) {
+        kept[place..].fill(u16::MAX);
+        kept[place] = n;
+    }
+    kept
 }

@@ -1,11 +1,12 @@
 //! What the tests share: records and stimuli from their fields, a seeded generator of random numbers, and
-//! the two calls on tables made on buffers whose contents are checked afterwards by document 01's clauses.
+//! the two calls of document 01 made on buffers whose contents are checked afterwards by its clauses.
 //! Random tables and lists come from `tables`, and tables of one shape from `shapes`; document 01's cases
 //! are in `document_cases`, those of registers with an enable in `enable_cases`, those of fixed inputs in
 //! `fixed_cases`, further tables in `samples`, what meets a set of grounds in `grounds`, and bench runs in
-//! `hand_runs`. `orders` has orders and the call for a bill, `printed` the lines that the programs print, and
-//! `two_runs` tries demand 3 on any two calls. `times` counts how often something occurs, and `fixed_pokes`
-//! how often lists poke fixed inputs early, late, twice or not at all.
+//! `hand_runs`. `orders` has orders and the call for a bill, `trims` the trimming call and what is given to it,
+//! `trim_cases` tables trimmed by hand, and `printed` the lines that the programs print. `two_runs` tries
+//! demand 3 on any two calls, `trimmed_runs` the claim of request S-5 on any three. `times` counts how often
+//! something occurs, and `fixed_pokes` how often lists poke fixed inputs early, late, twice or not at all.
 
 #![allow(dead_code)] // each test file uses a part
 
@@ -21,6 +22,9 @@ pub mod samples;
 pub mod shapes;
 pub mod tables;
 pub mod times;
+pub mod trim_cases;
+pub mod trimmed_runs;
+pub mod trims;
 pub mod two_runs;
 
 use model::{bench, certify, is_loop, Fact, Operator, Refusal};

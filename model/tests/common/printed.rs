@@ -27,6 +27,16 @@ pub fn printed_bill(answer: &Billed) -> String {
     printed(answer, |(bill, shares)| format!("bill {bill}\n{}", numbered_lines(shares)))
 }
 
+/// The lines that the program trim_table prints for old numbers.
+pub fn printed_numbers(numbers: &[u16]) -> String {
+    numbers.iter().map(|number| format!("{number}\n")).collect()
+}
+
+/// The line of a refusal, which the programs that write bytes print alone.
+pub fn refusal_line(ground: u32, place: usize) -> String {
+    format!("refused {ground} at {place}\n")
+}
+
 /// A line a number, behind its index.
 fn numbered_lines(numbers: &[u32]) -> String {
     numbers.iter().enumerate().map(|(index, n)| format!("{index} {n}\n")).collect()
@@ -39,7 +49,7 @@ fn printed<T>(answer: &Result<T, Refused>, accepted: impl Fn(&T) -> String) -> S
         Err(Refused { ground, place, row }) => {
             let row: Vec<String> = row.iter().map(|variable| variable.to_string()).collect();
             let line = if *ground == 11 { row.join(" ") + "\n" } else { String::new() };
-            format!("refused {ground} at {place}\n{line}")
+            refusal_line(*ground, *place) + &line
         }
     }
 }

@@ -144,11 +144,6 @@ fn operator(word: &str) -> Option<Operator> {
     Some(Operator::BY_CODE[code])
 }
 
-/// The code of an operator.
-fn code(operator: Operator) -> usize {
-    Operator::BY_CODE.iter().position(|&other| other == operator).expect("BY_CODE has every operator")
-}
-
 /// What to say of a record that begins with this word and is not written as its kind is.
 fn wrong_form(word: &str) -> String {
     if operator(word).is_some() {
@@ -183,28 +178,7 @@ fn fitting(word: &str, width_word: &str) -> Result<u32, String> {
 
 /// The 16 bytes of each record, in order.
 pub fn table_bytes(records: &[Record]) -> Vec<u8> {
-    records.iter().flat_map(record_bytes).collect()
-}
-
-/// The 16 bytes of a record.
-fn record_bytes(record: &Record) -> [u8; 16] {
-    let (kind, choice, n) = match *record {
-        Record::Input { kind: InputKind::Fixed(n), .. } => (0, 0, n),
-        Record::Input { kind: InputKind::Free, .. } => (0, 1, 0),
-        Record::Input { kind: InputKind::Secret, .. } => (0, 2, 0),
-        Record::Constant { n, .. } => (1, 0, n),
-        Record::Operator { operator, .. } => (2, code(operator) as u8, 0),
-        Record::Multiplexer { .. } => (3, 0, 0),
-        Record::Register { power_on, .. } => (4, 0, power_on),
-        Record::Enabled { power_on, .. } => (5, 0, power_on),
-    };
-    let mut bytes = [0; 16];
-    bytes[..3].copy_from_slice(&[kind, record.width() as u8, choice]);
-    for (place, variable) in [4, 6, 8].into_iter().zip(record.uses()) {
-        bytes[place..place + 2].copy_from_slice(&(variable as u16).to_le_bytes());
-    }
-    bytes[12..].copy_from_slice(&n.to_le_bytes());
-    bytes
+    records.iter().flat_map(Record::bytes).collect()
 }
 
 /// The text of a table in bytes, each variable called by its number.
@@ -222,7 +196,9 @@ fn record_text(record: &Record) -> String {
         Record::Input { kind: InputKind::Free, .. } => format!("free {w}"),
         Record::Input { kind: InputKind::Secret, .. } => format!("secret {w}"),
         Record::Constant { n, .. } => format!("constant {w} {n}"),
-        Record::Operator { operator, a, b, .. } => format!("{} {w} {a} {b}", OPERATORS[code(operator)]),
+        Record::Operator { operator, a, b, .. } => {
+            format!("{} {w} {a} {b}", OPERATORS[usize::from(operator.code())])
+        }
         Record::Multiplexer { a, b, c, .. } => format!("mux {w} {a} {b} {c}"),
         Record::Register { a, power_on, .. } => format!("register {w} {power_on} {a}"),
         Record::Enabled { a, b, power_on, .. } => format!("enabled {w} {power_on} {a} {b}"),

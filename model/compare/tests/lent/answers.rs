@@ -7,9 +7,12 @@ use model::Refusal;
 /// it: the one that an accepted call answers, the place of a refused one.
 #[derive(Debug, Default)]
 struct Answers {
-    times: [usize; 20],
-    greatest: [usize; 20],
+    times: [usize; ANSWERS],
+    greatest: [usize; ANSWERS],
 }
+
+/// None, or one of the grounds, of which 22 is the last.
+const ANSWERS: usize = 23;
 
 /// Makes so many random calls. Asserts that each of these grounds was met, 0 being none.
 pub fn random_calls(

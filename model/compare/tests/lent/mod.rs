@@ -18,14 +18,17 @@ fn scratch_asked(table: &[u8]) -> usize {
 #[derive(Debug, Clone, Copy)]
 pub struct Lengths {
     pub output: usize,
+    /// The list of old numbers, which trimming alone writes beside its output.
+    pub numbers: usize,
     pub scratch: usize,
     pub margin: usize,
 }
 
 impl Lengths {
-    /// What is asked for a table when the output takes so much a record.
+    /// What is asked for a table when the output takes so much a record, and no numbers are written beside.
     pub fn asked(table: &[u8], output_a_record: usize) -> Lengths {
-        Lengths { output: table.len() / 16 * output_a_record, scratch: scratch_asked(table), margin: 3 }
+        let output = table.len() / 16 * output_a_record;
+        Lengths { output, numbers: 0, scratch: scratch_asked(table), margin: 3 }
     }
 
     /// Lengths that meet those of grounds 3 and 4 that are to be met, by one.
@@ -44,14 +47,18 @@ impl Lengths {
 
     /// Random lengths, mostly enough.
     pub fn random(self, random: &mut Random) -> Lengths {
-        let mut length = |asked: usize| match random.below(20) {
-            0 => asked.saturating_sub(1),
-            1 => random.below(asked + 1),
-            2..=9 => asked + random.below(20),
-            _ => asked,
-        };
-        let (output, scratch) = (length(self.output), length(self.scratch));
-        Lengths { output, scratch, margin: random.below(8) }
+        let (output, scratch) = (random_length(random, self.output), random_length(random, self.scratch));
+        Lengths { output, scratch, margin: random.below(8), ..self }
+    }
+}
+
+/// A random length of a buffer, mostly enough.
+pub fn random_length(random: &mut Random, asked: usize) -> usize {
+    match random.below(20) {
+        0 => asked.saturating_sub(1),
+        1 => random.below(asked + 1),
+        2..=9 => asked + random.below(20),
+        _ => asked,
     }
 }
 
@@ -81,27 +88,38 @@ impl<V> Buffer<V> {
     }
 }
 
-/// The buffers of a call: its output and its scratch.
+/// The buffers of a call: its output, the numbers beside it and its scratch.
 #[derive(Clone)]
 pub struct Buffers<V> {
     output: Buffer<V>,
+    numbers: Buffer<u16>,
     scratch: Buffer<u16>,
+}
+
+/// The buffers as a call is lent them.
+pub struct Lent<'a, V> {
+    pub output: &'a mut [V],
+    pub numbers: &'a mut [u16],
+    pub scratch: &'a mut [u16],
 }
 
 impl<V: Clone + PartialEq + Debug> Buffers<V> {
     /// Buffers of these lengths, the output's numbers made from noise.
-    pub fn new(Lengths { output, scratch, margin }: Lengths, number: impl Fn(u16) -> V) -> Buffers<V> {
+    pub fn new(lengths: Lengths, number: impl Fn(u16) -> V) -> Buffers<V> {
+        let Lengths { output, numbers, scratch, margin } = lengths;
         Buffers {
             output: Buffer::new(output, margin, number),
+            numbers: Buffer::new(numbers, margin, |number| number),
             scratch: Buffer::new(scratch, margin, |number| number),
         }
     }
 
     /// What a call on equal buffers answers, and the buffers at its exit.
-    fn after<T>(&self, call: impl FnOnce(&mut [V], &mut [u16]) -> T) -> (T, Buffers<V>) {
+    fn after<T>(&self, call: impl FnOnce(Lent<V>) -> T) -> (T, Buffers<V>) {
         let mut exit = self.clone();
-        let answer = call(exit.output.lent(), exit.scratch.lent());
-        (answer, exit)
+        let Buffers { output, numbers, scratch } = &mut exit;
+        let lent = Lent { output: output.lent(), numbers: numbers.lent(), scratch: scratch.lent() };
+        (call(lent), exit)
     }
 
     /// Puts another row in the place of the one that the scratch's part for this table shows.
@@ -112,11 +130,14 @@ impl<V: Clone + PartialEq + Debug> Buffers<V> {
     }
 }
 
-/// What a call reads: the certifying call a table, the bench call stimuli too, and the call for a bill sizes.
+/// What a call reads: the certifying call a table, the bench call stimuli too, the trimming call a certificate
+/// and kept variables, and the call for a bill sizes.
 #[derive(Clone, Copy, Default)]
 pub struct Inputs<'a> {
     pub table: &'a [u8],
     pub stimuli: &'a [u8],
+    pub certificate: &'a [u8],
+    pub kept: &'a [u16],
     pub sizes: &'a [u32],
 }
 
@@ -124,6 +145,8 @@ impl Display for Inputs<'_> {
     fn fmt(&self, f: &mut Formatter) -> std::fmt::Result {
         write_lines(f, "bytes of table", self.table, 16)?;
         write_lines(f, "bytes of stimuli", self.stimuli, 8)?;
+        write_lines(f, "bytes of certificate", self.certificate, 8)?;
+        write_lines(f, "kept variables", self.kept, 16)?;
         write_lines(f, "sizes", self.sizes, 16)
     }
 }
@@ -140,8 +163,8 @@ fn write_lines(f: &mut Formatter, name: &str, numbers: &[impl Debug], a_line: us
 pub fn held_to_model<T, V>(
     inputs: Inputs,
     entry: &Buffers<V>,
-    archive: impl FnOnce(&mut [V], &mut [u16]) -> Result<T, Refusal>,
-    model: impl FnOnce(&mut [V], &mut [u16]) -> Result<T, Refusal>,
+    archive: impl FnOnce(Lent<V>) -> Result<T, Refusal>,
+    model: impl FnOnce(Lent<V>) -> Result<T, Refusal>,
 ) -> Result<T, Refusal>
 where
     T: PartialEq + Debug,
@@ -158,9 +181,11 @@ where
         _ => assert_eq!(answer, expected, "the answer on {inputs}"),
     }
     assert_same("output", inputs, &exit.output, &expected_exit.output);
+    assert_same("number", inputs, &exit.numbers, &expected_exit.numbers);
     assert_same("scratch", inputs, &exit.scratch, &expected_exit.scratch);
     if answer.is_err() {
         assert_same("refused output", inputs, &exit.output, &entry.output);
+        assert_same("refused number", inputs, &exit.numbers, &entry.numbers);
     }
     answer
 }

@@ -14,6 +14,18 @@ pub struct Example {
     pub stimuli: Vec<u8>,
     pub certificate: String,
     pub values: String,
+    /// Of an example that is trimmed.
+    pub trimmed: Option<Trimmed>,
+}
+
+/// The further files of an example that is trimmed: the certificate's bytes, the kept variables, the trimmed
+/// table and its text, and the number that each of its records had.
+pub struct Trimmed {
+    pub certificate: Vec<u8>,
+    pub kept: Vec<u16>,
+    pub table: Vec<u8>,
+    pub table_text: String,
+    pub numbers: Vec<u16>,
 }
 
 /// The folder of the examples.
@@ -34,7 +46,19 @@ pub fn example(name: &str) -> Example {
         stimuli: bytes("stimuli"),
         certificate: text("certificate.txt"),
         values: text("values.txt"),
+        trimmed: file("kept.txt").exists().then(|| Trimmed {
+            certificate: bytes("certificate"),
+            kept: numbers(&text("kept.txt")),
+            table: bytes("trimmed"),
+            table_text: text("trimmed.txt"),
+            numbers: numbers(&text("numbers.txt")),
+        }),
     }
+}
+
+/// The numbers of a text, one a line.
+fn numbers(text: &str) -> Vec<u16> {
+    text.lines().map(|line| line.parse().unwrap()).collect()
 }
 
 /// Every example.

@@ -3,7 +3,7 @@
 use borrow.Author.Needs.{needs}
 use mathlib.Core.Path.{sym, _∙_}
 use native.Mathlib.Omega.{arith}
-use Rattle.schedule.proofs.Uses.{last-decode, used-decode}
+use Rattle.schedule.proofs.Uses.{use-decode, used-decode}
 use Rattle.schedule.proofs.walk.used_at.Statement.{statement}
 use Rattle.schedule.proofs.walk.used_at.Tie as tie
 
@@ -11,7 +11,7 @@ use-at-requires : tie.Need-use-at-requires
 use-at-requires c κs =
     let a = c .before in (
       omega (arith, a .pre .0 .long),
-      rw (last-decode (a .args .t .now) (a .args .n) (a .args .v) (a .pre .1 .0)) at (a .pre .1 .1),
+      use-decode (a .args .t .now) (a .args .n) (a .args .v) (a .pre .1 .0) (a .args .k) (a .pre .1 .1),
     )
 
 wide-requires : tie.Need-wide-requires
