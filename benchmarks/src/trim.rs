@@ -1,9 +1,9 @@
 //! The trimming call in plain safe Rust on the same lent buffers, linear as the proved call: what the kept variables
-//! reach, one after another, is marked with a stack in the scratch, numbered in the marks' place, and written.
+//! reach, one after another, is visited with a stack in the scratch, numbered in the place of the flags, and written.
 
 use crate::schedule::schedule;
 use crate::table::{decoded, Bytes, Chunks, Table};
-use model::{check_lengths, fits, Fields, Kind, Refusal, SCRATCH_A_RECORD};
+use model::{check_kept, check_lengths, check_outputs, fits, Fields, Kind, Refusal, SCRATCH_A_RECORD};
 
 pub type Answer = Result<u32, Refusal>;
 
@@ -58,12 +58,16 @@ fn split<'a>(table: &'a [u8], scratch: &[u16]) -> Result<&'a [[u8; 16]], Refusal
     check_lengths(table, 0, 0, scratch.len())
 }
 
-/// Where a record's bytes and a fact's are read, and where a record's are written.
+/// Where a record's bytes and a fact's are read, and where a record's are written. As in the proved code, what a
+/// fact is takes one byte to see, and its number is read of an always alone.
 trait Lent {
     fn record(&self, v: usize) -> [u8; 16];
 
-    /// Byte 0 and the number of the 8 bytes of a variable.
-    fn fact(&self, v: usize) -> (u8, u32);
+    /// Byte 0 of the fact of a variable.
+    fn fact_code(&self, v: usize) -> u8;
+
+    /// The number in bytes 4 to 7 of it.
+    fn fact_number(&self, v: usize) -> u32;
 
     fn write(&mut self, place: usize, record: [u8; 16]);
 }
@@ -81,9 +85,13 @@ impl Lent for ByteLent<'_> {
     }
 
     #[inline(always)]
-    fn fact(&self, v: usize) -> (u8, u32) {
-        let number = [4, 5, 6, 7].map(|i| self.certificate[v * 8 + i]);
-        (self.certificate[v * 8], u32::from_le_bytes(number))
+    fn fact_code(&self, v: usize) -> u8 {
+        self.certificate[v * 8]
+    }
+
+    #[inline(always)]
+    fn fact_number(&self, v: usize) -> u32 {
+        u32::from_le_bytes([4, 5, 6, 7].map(|i| self.certificate[v * 8 + i]))
     }
 
     #[inline(always)]
@@ -114,9 +122,14 @@ impl Lent for ChunkLent<'_> {
     }
 
     #[inline(always)]
-    fn fact(&self, v: usize) -> (u8, u32) {
-        let [code, _, _, _, a, b, c, d] = self.certificate[v];
-        (code, u32::from_le_bytes([a, b, c, d]))
+    fn fact_code(&self, v: usize) -> u8 {
+        self.certificate[v][0]
+    }
+
+    #[inline(always)]
+    fn fact_number(&self, v: usize) -> u32 {
+        let [.., a, b, c, d] = self.certificate[v];
+        u32::from_le_bytes([a, b, c, d])
     }
 
     #[inline(always)]
@@ -154,7 +167,7 @@ fn trim(
     let part = &mut scratch[..n * SCRATCH_A_RECORD];
     part.fill(0);
     check(t, n, room, kept, lent)?;
-    mark(t, n, kept, lent, part);
+    visit(t, n, kept, lent, part);
     let written = number(t, n, part, numbers);
     for (place, &v) in numbers[..written].iter().enumerate() {
         write(t, n, v.into(), place, part, lent);
@@ -165,31 +178,27 @@ fn trim(
 
 /// Grounds 20, 21 and 22.
 fn check(t: &impl Table, n: usize, room: Room, kept: &[u16], lent: &impl Lent) -> Result<(), Refusal> {
-    if let Some(place) = kept.iter().position(|&v| usize::from(v) >= n) {
-        return Err(Refusal { ground: 20, place });
-    }
-    if room.trimmed < n * 16 || room.numbers < n {
-        return Err(Refusal { ground: 21, place: 0 });
-    }
+    check_kept(kept, n)?;
+    check_outputs(n, room.trimmed, room.numbers)?;
     if room.certificate != n * 8 {
         return Err(Refusal { ground: 22, place: 0 });
     }
-    for place in 0..n {
-        let (code, number) = lent.fact(place);
-        if !(1..=3).contains(&code) || (code == ALWAYS && !fits(number, t.width(place))) {
-            return Err(Refusal { ground: 22, place });
-        }
+    match (0..n).find(|&v| !is_fact(t, lent, v)) {
+        Some(place) => Err(Refusal { ground: 22, place }),
+        None => Ok(()),
     }
-    Ok(())
 }
 
-/// Whether a record is written as a constant of its fact's number.
+/// Whether the certificate has a fact for a variable.
 #[inline(always)]
-fn is_replaced(t: &impl Table, lent: &impl Lent, v: usize) -> bool {
-    lent.fact(v).0 == ALWAYS && t.kind(v) != Kind::Input
+fn is_fact(t: &impl Table, lent: &impl Lent, v: usize) -> bool {
+    match lent.fact_code(v) {
+        ALWAYS => fits(lent.fact_number(v), t.width(v)),
+        code => (1..=3).contains(&code),
+    }
 }
 
-/// Marks a variable, from place n on, and puts it on the stack, from the front on, unless it is marked. Gives the
+/// Flags a variable, from place n on, and puts it on the stack, from the front on, unless it is visited. Gives the
 /// stack's end.
 #[inline(always)]
 fn push(part: &mut [u16], n: usize, top: usize, v: usize) -> usize {
@@ -201,14 +210,15 @@ fn push(part: &mut [u16], n: usize, top: usize, v: usize) -> usize {
     top + 1
 }
 
-/// Marks the kept variables and all that they reach.
-fn mark(t: &impl Table, n: usize, kept: &[u16], lent: &impl Lent, part: &mut [u16]) {
+/// Visits the kept variables and all that they reach.
+fn visit(t: &impl Table, n: usize, kept: &[u16], lent: &impl Lent, part: &mut [u16]) {
     for &v in kept {
         let mut top = push(part, n, 0, v.into());
         while top > 0 {
             top -= 1;
             let v = usize::from(part[top]);
-            let uses = if is_replaced(t, lent, v) { 0 } else { t.kind(v).uses() };
+            // What is called always is written as a constant, or is an input: neither uses a variable.
+            let uses = if lent.fact_code(v) == ALWAYS { 0 } else { t.kind(v).uses() };
             for k in 0..uses {
                 top = push(part, n, top, t.use_at(v, k));
             }
@@ -216,7 +226,7 @@ fn mark(t: &impl Table, n: usize, kept: &[u16], lent: &impl Lent, part: &mut [u1
     }
 }
 
-/// Writes the old numbers of the inputs and of what is marked, and in the place of the mark one more than the new
+/// Writes the old numbers of the inputs and of what is visited, and in the place of the flag one more than the new
 /// one. How many there are.
 fn number(t: &impl Table, n: usize, part: &mut [u16], numbers: &mut [u16]) -> usize {
     let mut written = 0;
@@ -233,12 +243,12 @@ fn number(t: &impl Table, n: usize, part: &mut [u16], numbers: &mut [u16]) -> us
 /// Writes the record of variable v at its place in the trimmed table.
 #[inline(always)]
 fn write(t: &impl Table, n: usize, v: usize, place: usize, part: &[u16], lent: &mut impl Lent) {
-    let mut record = lent.record(v);
-    if is_replaced(t, lent, v) {
-        let [a, b, c, d] = lent.fact(v).1.to_le_bytes();
+    let (mut record, kind) = (lent.record(v), t.kind(v));
+    if kind != Kind::Input && lent.fact_code(v) == ALWAYS {
+        let [a, b, c, d] = lent.fact_number(v).to_le_bytes();
         record = [1, record[1], 0, 0, 0, 0, 0, 0, 0, 0, 0, 0, a, b, c, d];
     } else {
-        for k in 0..t.kind(v).uses() {
+        for k in 0..kind.uses() {
             let used = usize::from(Fields::read_variable(|i| record[i], k));
             let number = part[n + used] - 1;
             record[4 + 2 * k..6 + 2 * k].copy_from_slice(&number.to_le_bytes());

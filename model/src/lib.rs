@@ -32,7 +32,7 @@ pub use fields::Fields;
 pub use machine::{poke, power_on, tick, value};
 pub use record::{fits, remainder, InputKind, Kind, Operator, Record};
 pub use table::{check_lengths, is_loop, read_records, SCRATCH_A_RECORD};
-pub use trim::trim;
+pub use trim::{check_kept, check_outputs, trim};
 pub use wires::{find_loop, settle, together};
 
 /// A refusal: the number of the ground on which work is turned down, and its place.

@@ -5,17 +5,17 @@ use crate::table::accept;
 use crate::{fits, Fact, Record, Refusal};
 
 /// Ground 20: the first kept number that is not below the number of records.
-fn check_kept(kept: &[u16], records: usize) -> Result<(), Refusal> {
+pub fn check_kept(kept: &[u16], records: usize) -> Result<(), Refusal> {
     match kept.iter().position(|&variable| usize::from(variable) >= records) {
         Some(place) => Err(Refusal { ground: 20, place }),
         None => Ok(()),
     }
 }
 
-/// Ground 21, with the outputs' lengths: one is shorter than the table, or the other than a number a record,
-/// however few of them are written.
-fn check_outputs(table: &[u8], trimmed: usize, numbers: usize) -> Result<(), Refusal> {
-    if trimmed < table.len() || numbers < table.len() / 16 {
+/// Ground 21, with the number of records and the outputs' lengths: one is shorter than the table, or the other
+/// than a number a record, however few of them are written.
+pub fn check_outputs(records: usize, trimmed: usize, numbers: usize) -> Result<(), Refusal> {
+    if trimmed < 16 * records || numbers < records {
         return Err(Refusal { ground: 21, place: 0 });
     }
     Ok(())
@@ -24,8 +24,10 @@ fn check_outputs(table: &[u8], trimmed: usize, numbers: usize) -> Result<(), Ref
 /// The fact in the 8 bytes of a variable of this width, unless byte 0 is no fact's or the number of an always
 /// does not fit. Bytes 1 to 3, and the number of a fact not always, are not read.
 fn read_fact(bytes: &[u8; 8], width: u32) -> Option<Fact> {
+    if !(1..=3).contains(&bytes[0]) {
+        return None;
+    }
     match Fact::read(|i| bytes[i]) {
-        _ if !(1..=3).contains(&bytes[0]) => None,
         Fact::Always(n) if !fits(n, width) => None,
         fact => Some(fact),
     }
@@ -52,8 +54,8 @@ fn replaced(record: Record, fact: Fact) -> Record {
     }
 }
 
-/// Whether each variable is kept or reached by a kept one through uses, in any number of steps: all that is
-/// reached uses is reached too, one step after another until a step reaches nothing else.
+/// Whether each variable is kept or reached by a kept one through uses, in any number of steps: whatever a
+/// reached variable uses is reached too, one step after another until a step reaches nothing else.
 fn reached(records: &[Record], kept: &[u16]) -> Vec<bool> {
     let mut reached = vec![false; records.len()];
     for &variable in kept {
@@ -104,7 +106,7 @@ pub fn trim(
     // Ground 21 stands in place of 3, which finds nothing short where nothing is asked.
     let records = accept(table, 0, 0, scratch)?;
     check_kept(kept, records.len())?;
-    check_outputs(table, trimmed.len(), numbers.len())?;
+    check_outputs(records.len(), trimmed.len(), numbers.len())?;
     let facts = read_certificate(certificate, &records)?;
     let (written, survivors) = trimmed_records(&records, &facts, kept);
     for (bytes, record) in trimmed.chunks_exact_mut(16).zip(&written) {

@@ -7,12 +7,12 @@ mod common;
 
 use common::samples::add;
 use common::shapes::{layers, register_ring, table_or_shape, turned};
-use common::tables::{damage, random_stimuli, random_table};
+use common::tables::{random_stimuli, random_table};
 use common::trim_cases::trim_cases;
 use common::trimmed_runs::{Calls, TrimmedRun};
 use common::trims::{
-    certificate_of, certificate_with, foreign_certificate, random_given, random_kept,
-    with_other_unread_bytes, Given,
+    certificate_of, certificate_with, foreign_certificate, random_given, random_kept, try_unread_bytes,
+    Given,
 };
 use common::{bench_longer, cases, certify_longer, constant, free, Random, Table, MOST_RECORDS};
 use model::{read_records, Fact, Record};
@@ -163,19 +163,7 @@ fn trimming_again_changes_nothing() {
 #[test]
 fn bytes_that_are_not_read() {
     let mut random = Random::of_test("unread bytes", 88);
-    let mut differed = 0;
-    for _ in 0..cases(15_000) {
-        let n = 1 + random.below(20);
-        let mut given = random_given(&mut random, n);
-        if random.percent(20) {
-            damage(&mut random, &mut given.certificate);
-        }
-        let certificate = with_other_unread_bytes(&mut random, &given.certificate);
-        differed += usize::from(certificate != given.certificate);
-        let other = Given { certificate, ..given.clone() };
-        assert_eq!(other.trim_longer(2), given.trim_longer(2));
-    }
-    assert!(differed > 0);
+    try_unread_bytes(&mut random, cases(15_000), |given| given.trim_longer(2));
 }
 
 #[test]

@@ -113,7 +113,7 @@ fn assert_first(meets: impl Fn(u32) -> bool + Copy, register: usize, behind: usi
 }
 
 #[test]
-fn every_set_of_grounds() {
+fn every_set_of_grounds_but_large_ones_with_ground_1() {
     // Ground 1 takes the largest buffers, and is met beside at most two others.
     let quick = |set: &u32| set & 1 == 0 || set.count_ones() <= 3;
     for set in (0..1 << 17).filter(quick) {

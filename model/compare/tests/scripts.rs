@@ -19,8 +19,10 @@ fn statuses() {
         ("printf 0 | bin/certify", 1, OUTPUT),
         ("bin/certify --bytes examples/case_a/table", 0, OUTPUT),
         ("bin/certify --bytes < examples/case_a/table", 0, OUTPUT),
+        ("bin/certify --bytes /dev/fd/3 3< examples/case_a/table", 0, OUTPUT),
         ("bin/certify --bytes < /dev/null", 0, (false, false)),
         ("bin/certify --bytes examples/latch_loop/table", 1, ERRORS),
+        ("bin/certify --bytes examples/latch_loop/table >&-", 1, ERRORS),
         ("printf 0 | bin/certify --bytes", 1, ERRORS),
         ("bin/bench examples/case_a/table examples/case_a/stimuli", 0, OUTPUT),
         ("cd examples/case_a && ../../bin/bench table stimuli", 0, OUTPUT),
@@ -51,6 +53,7 @@ fn statuses_of_trim() {
         ("$trim $table $certificate 0043 11 11 0 {0..43}", 0, OUTPUT),
         ("$trim /dev/stdin $certificate 43 < $table", 0, OUTPUT),
         ("cat $certificate | $trim $table /dev/stdin 43", 0, OUTPUT),
+        ("$trim /dev/fd/3 $certificate 43 3< $table", 0, OUTPUT),
         ("$trim <(cat $table) <(cat $certificate) 43", 0, OUTPUT),
         ("trim=\"../../$trim\"; cd examples/trimmed_core; $trim table certificate 43", 0, OUTPUT),
         ("$trim /dev/null /dev/null", 0, (false, false)),
@@ -59,6 +62,7 @@ fn statuses_of_trim() {
         ("$trim $table $certificate 43 65535", 1, ERRORS),
         ("$trim $table $certificate {0..999}", 1, ERRORS),
         ("$trim $table $certificate 44 > /dev/full", 1, ERRORS),
+        ("$trim $table $certificate 44 >&-", 1, ERRORS),
         ("$trim $table /dev/null", 1, ERRORS),
         ("$trim $table $table", 1, ERRORS),
         ("$trim $certificate $certificate", 1, ERRORS),
@@ -75,6 +79,7 @@ fn statuses_of_trim() {
         ("$trim --numbers --numbers $table $certificate", 2, ERRORS),
         ("$trim --number $table $certificate", 2, ERRORS),
         ("$trim - $certificate < $table", 2, ERRORS),
+        ("timeout 20 $trim /dev/stdin $certificate 43 <&-", 2, ERRORS),
         ("$trim $table $certificate 43 > /dev/full", 2, ERRORS),
         ("$trim $table $certificate 43 >&-", 2, ERRORS),
     ] {
@@ -113,6 +118,7 @@ fn neither_could_be_said() {
         "bin/certify --bytes examples/case_a/table > /dev/full",
         "bin/certify --bytes examples/case_a/table >&-",
         "bin/bench",
+        "timeout 20 bin/bench examples/case_a/table /dev/stdin <&-",
         "bin/bench examples/case_a/table examples/case_a/stimuli > /dev/full",
         "bin/bench examples/case_a/table examples/case_a/stimuli >&-",
         "bin/bill -5",
@@ -128,6 +134,30 @@ fn neither_could_be_said() {
         "bin/trim --numbers",
     ] {
         assert_ends(line, 2, ERRORS);
+    }
+}
+
+/// Copies the commands to `$folder`, where each of their programs is a script that says a refusal and then ends by
+/// `$end`.
+const COPY: &str = r#"
+    rm -rf "$folder" && mkdir -p "$folder/crates" "$folder/target/bin" && cp -r bin "$folder" || exit
+    cd "$folder" && touch crates.txt || exit
+    for program in certify bench bill_order trim_table; do
+        printf '#!/bin/sh\necho refused 5 at 0 >&2\n%s\n' "$end" > target/bin/$program
+        chmod +x target/bin/$program
+    done
+    set -o pipefail
+"#;
+
+/// What a program says before it fails is printed, and is no refusal.
+#[test]
+fn programs_that_fail() {
+    let folder = concat!(env!("CARGO_TARGET_TMPDIR"), "/programs that fail");
+    for end in ["exit 3", "kill $$"] {
+        for call in ["certify /dev/null", "certify --bytes /dev/null", "bench a b", "bill", "trim a b"] {
+            let printed = format!("bin/{call} 2>&1 | grep -x 'refused 5 at 0'");
+            assert_ends(&format!("folder='{folder}' end='{end}'{COPY}{printed}"), 2, OUTPUT);
+        }
     }
 }
 

@@ -141,7 +141,7 @@ fn assert_first(faults: TrimFaults, meets: impl Fn(u32) -> bool + Copy) {
 }
 
 #[test]
-fn every_set_of_grounds() {
+fn every_set_of_grounds_but_large_ones_with_ground_1() {
     // Ground 1 takes the largest buffers, and is met beside at most two others.
     let quick = |set: &u32| set & 1 == 0 || set.count_ones() <= 3;
     for set in (0..1 << TRIM_GROUNDS.len()).filter(quick) {
@@ -381,7 +381,7 @@ fn certificates_of_other_tables() {
 #[test]
 fn medium_tables() {
     let mut random = Random::of_test("medium trimmed tables", 96);
-    compare_calls(&mut random, cases(100_000) / 100, &[], |random| {
+    compare_calls(&mut random, cases(100_000) / 100, &[0, 4, 11, 21], |random| {
         let n = 31 + random.below(300);
         random_given(random, n)
     });

@@ -1,14 +1,16 @@
 //! The claim of request S-5 on the archive's calls, over what four of them write, and two trimming calls whose
 //! certificates differ where they are not read. `common::trimmed_runs` says what is claimed and tries it.
 
+mod accepted;
 #[path = "../../tests/common/mod.rs"]
 mod common;
 
+use accepted::{bench, certify, scratch};
 use common::shapes::{chain, layers, register_ring, table_or_shape};
 use common::tables::{random_stimuli, random_table};
 use common::trimmed_runs::{Calls, TrimmedRun};
-use common::trims::{foreign_certificate, random_given, random_kept, with_other_unread_bytes, Given};
-use common::{cases, noise, widened, Random, MOST_RECORDS};
+use common::trims::{foreign_certificate, random_kept, try_unread_bytes, Given};
+use common::{cases, noise, Random, MOST_RECORDS};
 use model::{read_records, Refusal};
 
 /// The trimmed table and the old numbers that the trimming call writes, or the refusal.
@@ -21,24 +23,6 @@ fn trim(given: &Given) -> Result<(Vec<u8>, Vec<u16>), Refusal> {
     trimmed.truncate(written * 16);
     numbers.truncate(written);
     Ok((trimmed, numbers))
-}
-
-/// The certificate that the certifying call writes for a table that it accepts.
-fn certify(table: &[u8]) -> Vec<u8> {
-    let mut certificate: Vec<u8> = noise(table.len() / 16 * 8).map(|number| number as u8).collect();
-    compare::certify(table, &mut certificate, &mut scratch(table)).expect("certify accepts the table");
-    certificate
-}
-
-/// The values that the bench call writes for a table and stimuli that it accepts.
-fn bench(table: &[u8], stimuli: &[u8]) -> Vec<u32> {
-    let mut values: Vec<u32> = noise(table.len() / 16).map(widened).collect();
-    compare::bench(table, stimuli, &mut values, &mut scratch(table)).expect("bench accepts the stimuli");
-    values
-}
-
-fn scratch(table: &[u8]) -> Vec<u16> {
-    noise(table.len() / 16 * 4).collect()
 }
 
 const ARCHIVE: Calls =
@@ -90,11 +74,5 @@ fn a_trimmed_table_is_accepted_and_has_the_facts_of_what_remains() {
 #[test]
 fn bytes_that_are_not_read() {
     let mut random = Random::of_test("unread bytes", 95);
-    for _ in 0..cases(30_000) {
-        let n = 1 + random.below(20);
-        let given = random_given(&mut random, n);
-        let certificate = with_other_unread_bytes(&mut random, &given.certificate);
-        let other = Given { certificate, ..given.clone() };
-        assert_eq!(trim(&other), trim(&given));
-    }
+    try_unread_bytes(&mut random, cases(30_000), trim);
 }

@@ -77,8 +77,7 @@ pub fn constant(w: u8, n: u32) -> RecordBytes {
 
 /// An operator of width w on A and B.
 pub fn operator(operator: Operator, w: u8, a: u16, b: u16) -> RecordBytes {
-    let code = Operator::BY_CODE.iter().position(|&other| other == operator);
-    record(2, w, code.unwrap() as u8, [a, b, 0], 0)
+    record(2, w, operator.code(), [a, b, 0], 0)
 }
 
 /// A multiplexer of width w with control A and arms B and C.

@@ -1,11 +1,15 @@
 //! The trimming call made on buffers whose contents are checked afterwards by request S-5's clauses; what is
-//! given to it: a table's own certificate and others that pass, and lists of kept variables.
+//! given to it: a table's own certificate and others that pass, and lists of kept variables; and its clause on
+//! the certificate's bytes that are not read, tried on any trimming call.
 
 use super::samples::one_of_each;
 use super::shapes::random_shape;
 use super::tables::{damage, random_number};
+use super::times::Times;
 use super::{check_output, check_scratch, noise, refused, Random, Refused};
 use model::{certify, find_loop, read_records, trim, Fact, Record};
+use std::fmt::Debug;
+use std::ops::Range;
 
 /// What is given to a trimming call.
 #[derive(Debug, Clone)]
@@ -97,13 +101,50 @@ pub fn foreign_certificate(random: &mut Random, records: &[Record]) -> Vec<u8> {
 }
 
 /// The certificate with other bytes where none is read: bytes 1 to 3, and the number of a fact not always.
-pub fn with_other_unread_bytes(random: &mut Random, certificate: &[u8]) -> Vec<u8> {
+fn with_other_unread_bytes(random: &mut Random, certificate: &[u8]) -> Vec<u8> {
     let mut other = certificate.to_vec();
     for bytes in other.chunks_exact_mut(8) {
         let unread = if bytes[0] == ALWAYS { 1..4 } else { 1..8 };
         bytes[unread].iter_mut().for_each(|byte| *byte = random.next() as u8);
     }
     other
+}
+
+/// What is counted of calls on certificates with other unread bytes: that they are accepted, and that bytes 1 to
+/// 3, or the number, of some fact differ then.
+const UNREAD: [&str; 3] = ["accepted", "bytes 1 to 3", "number"];
+
+/// Asserts on so many random calls, some with a damaged certificate, that other bytes where none is read change
+/// neither answer nor outputs. What occurred is counted, so that a test can't pass where little does.
+pub fn try_unread_bytes<T: PartialEq + Debug, E: PartialEq + Debug>(
+    random: &mut Random,
+    calls: usize,
+    trim: impl Fn(&Given) -> Result<T, E>,
+) {
+    let mut seen = Times::none(&UNREAD);
+    for _ in 0..calls {
+        let n = 1 + random.below(20);
+        let mut given = random_given(random, n);
+        if random.percent(20) {
+            damage(random, &mut given.certificate);
+        }
+        let certificate = with_other_unread_bytes(random, &given.certificate);
+        let differ = |bytes| facts_differ(&given.certificate, &certificate, bytes);
+        let has = [true, differ(1..4), differ(4..8)];
+        let answer = trim(&given);
+        assert_eq!(trim(&Given { certificate, ..given.clone() }), answer, "{given:?}");
+        let counted = UNREAD.into_iter().zip(has).filter(|&(_, has)| has && answer.is_ok());
+        counted.for_each(|(case, _)| seen.count(case));
+    }
+    if calls >= 500 {
+        seen.assert_each(calls, 700);
+    }
+}
+
+/// Whether two certificates differ in these bytes of some fact.
+fn facts_differ(one: &[u8], other: &[u8], bytes: Range<usize>) -> bool {
+    let mut facts = one.chunks_exact(8).zip(other.chunks_exact(8));
+    facts.any(|(one, other)| one[bytes.clone()] != other[bytes.clone()])
 }
 
 /// A list of kept variables of a table of n records: mostly a few, sometimes none, many, or more than there
