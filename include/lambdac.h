@@ -50,11 +50,11 @@ uint64_t lambdac_bench(const uint8_t *table, size_t table_len, const uint8_t *st
  * the list (told as 2^32 - 1 where it needs more than 32 bits), then 21 at place 0 for too little trimmed or numbers,
  * then 22 at place 0 for a certificate that is not 8 bytes a record, and at the first variable whose byte 0 is none of
  * 1 to 3, or is 1 with a number that does not fit its width.
- * The caller vouches that the certificate is the table's own. Then, after a list of stimuli that lambdac_bench accepts
- * on the table, and after that list with its pokes renumbered on the trimmed one, every variable that remains holds the
- * same value, and the trimmed table's own certificate has the same 8 bytes for it. With any certificate that ground 22
- * lets pass the trimmed table meets none of grounds 1, 2 and 5 to 11. Bytes 1 to 3 of a variable, and the number of one
- * that is not always, are not read. */
+ * The caller vouches that the certificate is the table's own; 22 lets that pass. Then, after a list of stimuli that
+ * lambdac_bench accepts on the table, and after that list with its pokes renumbered on the trimmed one, every variable
+ * that remains holds the same value, and the trimmed table's own certificate has the same 8 bytes for it. With any
+ * certificate that ground 22 lets pass the trimmed table meets none of grounds 1, 2 and 5 to 11. Bytes 1 to 3 of a
+ * variable, and the number of one that is not always, are not read. */
 uint64_t lambdac_trim(const uint8_t *table, size_t table_len, const uint8_t *certificate, size_t certificate_len,
                       const uint16_t *kept, size_t kept_len, uint8_t *trimmed, size_t trimmed_len, uint16_t *numbers,
                       size_t numbers_len, uint16_t *scratch, size_t scratch_len);

@@ -1,27 +1,31 @@
 -- The packed number tells the answer, and the calls' answers fit it.
 -- Assumes nothing.
-use mathlib.Core.Path.{_≡_, ap, ap₂}
-use mathlib.Core.List.{List}
-use Prim.Native.Nat.{ℕ, _-_, _^_, _<_, _≤_}
+use mathlib.Core.Path.{_≡_, refl, ap, ap₂}
+use mathlib.Core.Logic.{inl, inr, ⊎-elim}
+use mathlib.Core.List.{List, []}
+use Prim.Native.Nat.{ℕ, _^_, _<_, _≤_}
 use native.Mathlib.Omega.{arith}
+use lib.ListN.{length}
 use Rattle.net.proofs.Sums.{registers-few}
+use Rattle.circuit.specs.declared.refusal.Ground.{Ground}
 use Rattle.circuit.specs.Refusal.{groundNumber}
 use Rattle.circuit.specs.Circuit.{graph}
 use Rattle.circuit.specs.Stimuli.{checkStimuli}
-use Rattle.circuit.proofs.Places.{Refusals, refusals-weaken, ground-range, ground-told, stimuli-refusals}
+use Rattle.circuit.proofs.Places.{Refusals, refusal-found, refusals-weaken, ground-range, ground-told}
+use Rattle.circuit.proofs.Places.{call-refusals, stimuli-refusals}
 use Rattle.circuit.proofs.Tables.{circuit-length}
-use Rattle.fact.specs.Fact.{factAt}
 use Rattle.fact.specs.Certificate.{registers}
-use Rattle.call.specs.Call.{Lent, Left, Answer, accepted, refused, Call, size, circuitOf, AcceptedWith, Promises}
+use Rattle.call.specs.Call.{Lent, Left, Answer, accepted, refused, Call, outputOf, size, circuitOf, checked}
+use Rattle.call.specs.Call.{AcceptedWith, Promises}
 use Rattle.call.proofs.Parts.{table-checked}
 use Rattle.call.proofs.Answers.{row-most, refusal-holds}
 use Rattle.certificate.specs.Promise.{certifying}
 use Rattle.machine.specs.Promise.{benching}
 use Rattle.bill.specs.Promise.{Bills}
 use Rattle.bill.proofs.Promise.{accepted-small, refused-small}
-use Rattle.trim.specs.Promise.{called, trimming}
-use Rattle.trim.proofs.Replaced.{replaced-length}
-use Rattle.trim.proofs.Survivors.{survivors-few}
+use Rattle.trim.specs.Promise.{secondOf, trimming}
+use Rattle.trim.proofs.Places.{OfTrim, trim-refusals}
+use Rattle.trim.proofs.Promise.{accepted-few}
 use Rattle.capi.specs.Packed.{packed, Low, cut}
 
 -- two answers with the same number are the same
@@ -63,16 +67,38 @@ pub billed-low : (sizes entry exit : List ℕ) (a : Answer) → Bills sizes entr
 billed-low sizes entry exit (accepted k) p = accepted-small p .2
 billed-low sizes entry exit (refused g place) p = omega (arith, refused-small p .1)
 
--- a trimmed table has no more records than the table
-pub trimmed-low : (certificate kept : List ℕ) (l : Lent) (e : Left) (a : Answer)
-    → Promises (trimming certificate kept) l e a → Low (cut a)
-trimmed-low certificate kept l e (accepted k) p =
-    omega (
-      arith,
-      p .accepts .count,
-      survivors-few (called certificate kept l) kept,
-      replaced-length (circuitOf l) (factAt certificate),
-      circuit-length (l .table) (size l),
-      table-checked (trimming certificate kept) l (p .past .passed) .small,
-    )
-trimmed-low certificate kept l e (refused g place) p = omega arith
+module _ (certificate kept : List ℕ) (l : Lent) (e : Left) where
+  -- a trimmed table has no more records than the table
+  records-low : (k : ℕ) → AcceptedWith (trimming certificate kept) l e k → k < 2 ^ 32
+  records-low k p =
+      omega (
+        arith,
+        accepted-few certificate kept l p,
+        table-checked (trimming certificate kept) l (p .past .passed) .small,
+      )
+
+  pub trimmed-low : (a : Answer) → Promises (trimming certificate kept) l e a → Low (cut a)
+  trimmed-low (accepted k) p = records-low k p
+  trimmed-low (refused g place) p = omega arith
+
+  -- where no more than 2^32 variables are kept, every place is below 2^32
+  place-low : length kept ≤ 2 ^ 32 → (g : Ground) (place : ℕ)
+      → Promises (trimming certificate kept) l e (refused g place) → place < 2 ^ 32
+  place-low few g place (inr (inr p)) =
+      let small = table-checked (trimming certificate kept) l (p .past .passed) .small in
+      ⊎-elim (λ h. omega (arith, h .1)) (λ h. omega (arith, h .2, circuit-length (l .table) (size l)))
+      (refusal-found (OfTrim (length kept) (length (circuitOf l))) (trimming certificate kept .later l) g place
+      (trim-refusals (length (l .table)) (circuitOf l) certificate kept (length (outputOf (l .outputs)))
+      (length (secondOf (l .outputs)))) (p .first))
+  place-low few g place (inr (inl (is, p))) = omega (arith, row-most (trimming certificate kept) l e p)
+  place-low few g place (inl p) =
+      omega (
+        arith,
+        refusal-found (λ h i. (groundNumber h ≤ 10) × (i ≤ 4096)) (checked (trimming certificate kept) l) g place
+            (call-refusals (l .table) [] _) (p .first) .1,
+      )
+
+  -- so none is cut, and the number tells the answer
+  pub trimmed-whole : length kept ≤ 2 ^ 32 → (a : Answer) → Promises (trimming certificate kept) l e a → cut a ≡ a
+  trimmed-whole few (accepted k) p = refl
+  trimmed-whole few (refused g place) p = ap (refused g) (omega (arith, place-low few g place p))

@@ -4,8 +4,8 @@
 use mathlib.Core.Path.{_≡_, refl, sym, ap, _∙_}
 use mathlib.Core.Bool.{Bool, true, false}
 use mathlib.Core.List.{List, [], _∷_}
-use Prim.Native.Nat.{ℕ, _*_, _/_, _^_, _≤_, _<_}
-use native.Mathlib.Nat.{mul-le-mul-left, mul-le-mul-right}
+use Prim.Native.Nat.{ℕ, _*_, _/_, _≤_}
+use native.Mathlib.Nat.{mul-zero}
 use native.Mathlib.Omega.{arith}
 use borrow.Author.Tests.{ltb-false}
 use lib.Dec.{ltb}
@@ -31,14 +31,6 @@ refuse-passed ground place false next e = (refl, e)
 pub length-most : (bytes : ℕ) → checkLength bytes ≡ Passed → bytes ≤ 65536
 length-most bytes e = ltb-false 65536 bytes (refuse-passed TableTooLong 0 (ltb 65536 bytes) _ e .0)
 
--- so much a record of a table that is not too long
-pub few-each : (bytes each : ℕ) → bytes ≤ 65536 → each ≤ 256 → bytes / 16 * each < 2 ^ 64
-few-each bytes each h k =
-    omega (arith, mul-le-mul-right each (div-most bytes h), mul-le-mul-left 4096 k)
-  where
-    div-most : (b : ℕ) → b ≤ 65536 → b / 16 ≤ 4096
-    div-most b l = omega arith
-
 output-lent : (lent asked : ℕ) → checkOutput lent asked ≡ Passed → asked ≤ lent
 output-lent lent asked e = ltb-false lent asked (refuse-passed OutputShort 0 (ltb lent asked) Passed e .0)
 
@@ -53,6 +45,11 @@ check-stops x a rest g place e q = sym (ap (λ (y : Check). y then rest) (sym e 
 -- a check that passes leaves it to what is tried next
 pub check-goes-on : (x a rest : Check) → x ≡ a → x ≡ Passed → (a then rest) ≡ rest
 check-goes-on x a rest e q = ap (λ (y : Check). y then rest) (sym e ∙ q)
+
+-- an output of which nothing is asked is as none
+pub nothing-asked : (t : List ℕ) (scratch : Asked)
+    → checkCall t (record { lent = 0; each = 0 } ∷ []) scratch ≡ checkCall t [] scratch
+nothing-asked t scratch = rw (mul-zero (length t / 16)) refl
 
 -- of each output there is as much as is asked for n records
 abbrev pub AllLent : ℕ → List Asked → Type 0

@@ -103,20 +103,12 @@ pub fn check_call(
     check_records(t, n, powers)
 }
 
-// Grounds 1, 2 and 4 to 10 of a call on a table that tries no ground 3.
+// Grounds 1, 2 and 4 to 10 of a call on a table that tries no ground 3: nothing is asked of an output, so that none is
+// short.
 pub fn check_table(t: &[u8], scratch: usize, room: usize, powers: &PowerTable) -> Check
     requires { ⌜ room ≤ 256 ⌝ }
     requires { ⌜ Powers (now powers) ⌝ }
     ensures { λ r. ⌜ r ≡ checkCall (now (t .entry)) [] (record { lent = scratch; each = room }) ⌝ }
 {
-    let whole = check_length(t.len());
-    let Check::Passed = whole else {
-        return whole;
-    };
-    let n = t.len() / 16;
-    let worked = check_scratch(scratch, n * room);
-    let Check::Passed = worked else {
-        return worked;
-    };
-    check_records(t, n, powers)
+    check_call(t, 0, 0, scratch, room, powers)
 }

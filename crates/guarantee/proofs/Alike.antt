@@ -3,7 +3,7 @@
 -- Assumes nothing.
 use mathlib.Core.Path.{_≡_, subst}
 use mathlib.Core.Logic.{_⊎_, inl, inr}
-use mathlib.Core.List.{List, _∷_}
+use mathlib.Core.List.{List, [], _∷_}
 use Prim.Native.Nat.{ℕ, zero, suc, _+_, _*_, _/_, _<_, suc-le-suc}
 use native.Mathlib.Omega.{arith}
 use lib.Dec.{T}
@@ -25,15 +25,15 @@ use Rattle.circuit.proofs.Stimuli.{poke-passed, stimulus-passed}
 use Rattle.fact.specs.TwoRuns.{isSecret, AlikeLists}
 use Rattle.guarantee.specs.TwoRuns.{SecretInput, BothTick, BothPoke, AlikeStimuli}
 
--- lists are alike where each two stimuli, put in front of alike lists, leave them alike
-alike-below : {R : ℕ → ℕ → ℕ → Type 0} (f g : ℕ → Stimulus) (n : ℕ)
-    → ((i : ℕ) → i < n → (xs ys : List Stimulus) → Alike R xs ys → Alike R (f i ∷ xs) (g i ∷ ys))
-    → Alike R (listBelow f n) (listBelow g n)
+-- what holds of no stimuli, and of two lists with stimulus i of each put in front where it held of them, holds of all
+pub lists-below : (P : List Stimulus → List Stimulus → Type 0) (f g : ℕ → Stimulus) (n : ℕ) → P [] []
+    → ((i : ℕ) → i < n → (xs ys : List Stimulus) → P xs ys → P (f i ∷ xs) (g i ∷ ys))
+    → P (listBelow f n) (listBelow g n)
 unfolding listBelow
-alike-below f g zero h = none
-alike-below f g (suc n) h =
+lists-below P f g zero start h = start
+lists-below P f g (suc n) start h =
     h 0 (omega arith) _ _
-    (alike-below (λ i. f (suc i)) (λ i. g (suc i)) n (λ i below. h (suc i) (suc-le-suc below)))
+    (lists-below P (λ i. f (suc i)) (λ i. g (suc i)) n start (λ i below. h (suc i) (suc-le-suc below)))
 
 -- a record whose byte 0 is 0 and whose byte 2 is 2 reads as a secret input
 secret-read : (t : List ℕ) (n v : ℕ) → v < n → SecretInput t v → T (isSecret (inputOf (recordOf (circuit t n) v)))
@@ -68,5 +68,5 @@ module _ (t s s′ : List ℕ) (n : ℕ) where
   unfolding stimuli
   lists-alike e a =
       subst (λ (k : ℕ). AlikeLists c (stimuli s) (listBelow (λ i. stimulusAt s′ (i * 8)) (k / 8))) (a .equally-long)
-      (alike-below (λ i. stimulusAt s (i * 8)) (λ i. stimulusAt s′ (i * 8)) (length s / 8)
+      (lists-below (AlikeLists c) (λ i. stimulusAt s (i * 8)) (λ i. stimulusAt s′ (i * 8)) (length s / 8) none
       (λ i below. alike-at (i * 8) (stimulus-passed c s e i below .1) (a .alike i below)))

@@ -1,5 +1,6 @@
 pub mod Alike
 pub mod TwoRuns
+pub mod Computed
 pub mod Witness
 pub mod Passing
 pub mod TrimmedAccepted
@@ -8,4 +9,6 @@ pub mod Trimming
 pub mod Trimmed
 pub mod Renumbering
 pub mod TrimmedCertificate
+pub mod OwnCertificate
+pub mod TrimmedTwoRuns
 pub mod TrimmedWitness

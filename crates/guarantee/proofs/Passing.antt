@@ -51,7 +51,8 @@ module _ (t output scratch : List ℕ) (lengths : checkLength (length t) ≡ Pas
     (room : length t / 16 * 4 ≤ length scratch) where
   -- a bench call on such a table, with a list that passes
   pub bench-accepted : (s : List ℕ) (e : Left) (r : Benched) → length t / 16 ≤ length output
-      → checkStimuli (circuit t (length t / 16)) s ≡ Passed → Benches s (lent t output scratch) e r → r ≡ benched.Accepted
+      → checkStimuli (circuit t (length t / 16)) s ≡ Passed → Benches s (lent t output scratch) e r
+      → r ≡ benched.Accepted
   bench-accepted s e r long later p =
       let (k, is) = call-accepted (benching s) (lent t output scratch) e (benched-call.answerOf r)
       (one-checked (benching s) 1 t output scratch refl refl lengths records (omega arith) room) none later p in

@@ -4,8 +4,7 @@
 use mathlib.Core.Path.{_≡_, sym, _∙_, subst}
 use mathlib.Core.Logic.{_⊎_, inl, inr}
 use mathlib.Core.List.{List, [], _∷_}
-use Prim.Native.Nat.{ℕ, zero, suc, _+_, _*_, _/_, _<_, suc-le-suc}
-use native.Mathlib.Omega.{arith}
+use Prim.Native.Nat.{ℕ, _+_, _*_, _/_, _<_}
 use lib.ListN.{length, getD}
 use Rattle.net.specs.declared.Stimulus.{Stimulus}
 use Rattle.net.specs.Net.{Graph, listBelow}
@@ -21,16 +20,7 @@ use Rattle.trim.specs.Trimmed.{replaced, trimmed}
 use Rattle.trim.proofs.Survivors.{oldNumber}
 use Rattle.trim.proofs.Machines.{accepted-follows}
 use Rattle.guarantee.specs.Trimmed.{SameButVariable, TickStays, PokeRenumbered, RenumberedStimuli}
-
--- lists are renumbered where each two stimuli, put in front of renumbered lists, leave them so
-renumbered-below : {g : Graph} {old : ℕ → ℕ} (f h : ℕ → Stimulus) (n : ℕ)
-    → ((i : ℕ) → i < n → (xs ys : List Stimulus) → Renumbered g old xs ys → Renumbered g old (f i ∷ xs) (h i ∷ ys))
-    → Renumbered g old (listBelow f n) (listBelow h n)
-unfolding listBelow
-renumbered-below f h zero each = none
-renumbered-below f h (suc n) each =
-    each 0 (omega arith) _ _
-    (renumbered-below (λ i. f (suc i)) (λ i. h (suc i)) n (λ i below. each (suc i) (suc-le-suc below)))
+use Rattle.guarantee.proofs.Alike.{lists-below}
 
 -- ---- one stimulus
 
@@ -77,7 +67,8 @@ module _ (c : Circuit) (kept : List ℕ) (inside : Inside c) (noLoop : NoLoop c)
     stimuli-renumbered =
         subst (λ (m : ℕ). Renumbered (graph c′) (oldNumber c₁ kept) (stimuli s)
         (listBelow (λ i. stimulusAt s′ (i * 8)) (m / 8))) (sym (h .equally-long))
-        (renumbered-below (λ i. stimulusAt s (i * 8)) (λ i. stimulusAt s′ (i * 8)) (length s / 8) here)
+        (lists-below (Renumbered (graph c′) (oldNumber c₁ kept)) (λ i. stimulusAt s (i * 8))
+        (λ i. stimulusAt s′ (i * 8)) (length s / 8) none here)
 
     passed-here : checkStimuli c s ≡ Passed → (i : ℕ) → i < length s / 8 → PassedAt c′ s′ (i * 8)
     passed-here e i below =

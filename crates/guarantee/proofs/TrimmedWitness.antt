@@ -1,33 +1,26 @@
--- The premises of the claim of a trimmed table can be met: five promises that hold of a table and of what remains of
+-- The premises of the claims of a trimmed table can be met: six promises that hold of a table and of what remains of
 -- it, with buffers that are written out, where two wires are dropped and the poked input has another number.
 -- Assumes nothing.
-use mathlib.Core.Path.{_≡_, refl, sym, ap, _∙_, subst}
-use mathlib.Core.List.{List, [], _∷_, _++_, flatMap}
-use Prim.Native.Nat.{ℕ, _+_, _*_, _/_, _≤_, _<_}
+use mathlib.Core.Path.{_≡_, refl, subst}
+use mathlib.Core.Logic.{_⊎_, inl, inr}
+use mathlib.Core.List.{[], _∷_, flatMap}
+use Prim.Native.Nat.{ℕ, zero, suc, _+_, _*_, _/_, _<_}
 use native.Mathlib.Omega.{arith}
-use lib.ListN.{length, take, drop, getD}
+use lib.ListN.{length, take, getD}
 use Rattle.net.specs.Tests.{allBelow, every}
-use Rattle.net.specs.Net.{listBelow, after, Counts}
-use Rattle.net.proofs.Lists.{getD-listBelow}
-use Rattle.circuit.specs.declared.refusal.Check.the-variants.{Passed}
+use Rattle.net.specs.Net.{listBelow, after}
 use Rattle.circuit.specs.Number.{u16At}
-use Rattle.circuit.specs.Circuit.{Circuit, circuit, graph, NoLoop}
+use Rattle.circuit.specs.Circuit.{circuit, NoLoop}
 use Rattle.circuit.specs.Checks.{checkRecords}
 use Rattle.circuit.specs.Machine.{machine}
 use Rattle.circuit.specs.Stimuli as stimulus
 use Rattle.circuit.specs.Stimuli.{checkStimuli}
-use Rattle.circuit.proofs.Tables.{Inside, circuit-length, circuit-inside, falling-no-loop}
-use Rattle.fact.specs.declared.Fact.{Fact}
-use Rattle.fact.specs.declared.Fact.the-variants.{Open}
-use Rattle.fact.specs.Fact.{factBytes, factAt}
+use Rattle.circuit.proofs.Tables.{falling-no-loop}
 use Rattle.fact.specs.Rule.{rule}
 use Rattle.fact.specs.Certificate as definition
-use Rattle.fact.specs.Certificate.{initialStore, registers, rounds}
-use Rattle.fact.proofs.Certificate.{least-agree, certificate-least, rounds-counted, rounds-few}
-use Rattle.call.specs.Call.{Lent, left, outputOf, size, circuitOf, checked, scratchCleared}
-use Rattle.call.proofs.Parts.{table-checked}
+use Rattle.fact.specs.Certificate.{initialStore, rounds}
 use Rattle.certificate.specs.declared.Certified.the-variants as certified
-use Rattle.certificate.specs.Promise.{certifying, Certifies}
+use Rattle.certificate.specs.Promise.{Certifies}
 use Rattle.machine.specs.declared.Benched.the-variants as benched
 use Rattle.machine.specs.Promise.{Benches}
 use Rattle.trim.specs.declared.Trimmed.the-variants as trim
@@ -36,46 +29,16 @@ use Rattle.trim.specs.Trimmed as trim-definition
 use Rattle.trim.specs.Order.{checkKept, checkCertificate}
 use Rattle.trim.specs.Promise.{CallTrims}
 use Rattle.trim.proofs.Accepted.{trimmed-without-loop}
-use Rattle.guarantee.specs.Trimmed.{RenumberedStimuli, renumbered, TrimmedAlike}
+use Rattle.guarantee.specs.TwoRuns.{BothTick, BothPoke, AlikeStimuli, ClaimsHold}
+use Rattle.guarantee.specs.Trimmed.{RenumberedStimuli, renumbered, survivorLines, TrimmedAlike}
 use Rattle.guarantee.specs.TrimmedWitness.{table, certificate, kept, trimmed, numbers, stimuli, stimuli′, values}
-use Rattle.guarantee.specs.TrimmedWitness.{values′, certificate′, zeros, written, trimLent, trimLeft}
+use Rattle.guarantee.specs.TrimmedWitness.{stimuli″, values′, values″, certificate′, zeros, written, trimLent}
+use Rattle.guarantee.specs.TrimmedWitness.{trimLeft}
+use Rattle.guarantee.proofs.Computed.{certified-computed}
 use Rattle.guarantee.proofs.Trimmed.{trimmed-alike}
 use Rattle.guarantee.proofs.Renumbering.{renumbered-own}
 use Rattle.guarantee.proofs.TrimmedCertificate.{trimmed-certificate}
-
--- ---- a certifying call, from what is computed of it
-
-certified-computed : (l : Lent) (cells : List ℕ) (k : ℕ) → checked certifying l ≡ Passed → NoLoop (circuitOf l)
-    → rounds (circuitOf l) ≡ k
-    → listBelow (factAt cells) (size l) ≡ listBelow (definition.certificate (circuitOf l)) (size l)
-    → cells ≡ flatMap factBytes
-    (listBelow (after (graph (circuitOf l)) (rule (circuitOf l)) k (initialStore (circuitOf l))) (size l))
-    ++ drop (size l * 8) (outputOf (l .outputs))
-    → Certifies l (left cells (scratchCleared certifying l)) (certified.Accepted k)
-certified-computed l cells k passed none count facts bytes =
-    record {
-      past = record { passed = passed; no-loop = none; scratch = refl };
-      later = refl;
-      accepts = record {
-        counts = subst (λ (j : ℕ). Counts (graph c) (rule c) (initialStore c) j) count (rounds-counted c inside none);
-        few = subst (λ (j : ℕ). j ≤ 2 * registers c) count (rounds-few c inside none);
-        certificate = ap (λ (b : List ℕ). b ∷ []) bytes;
-        least = least-agree c inside (definition.certificate c) (factAt cells) same (certificate-least c inside none);
-      };
-    }
-  where
-    c : Circuit
-    c = circuitOf l
-
-    inside : Inside c
-    inside = circuit-inside (l .table) (size l) (table-checked certifying l passed .valid)
-
-    same : (v : ℕ) → v < length c → factAt cells v ≡ definition.certificate c v
-    same v below =
-        let variable : v < size l = rw (circuit-length (l .table) (size l)) at below in
-        sym (getD-listBelow (factAt cells) (size l) v Open variable)
-        ∙ ap (λ (fs : List Fact). getD fs v Open) facts
-        ∙ getD-listBelow (definition.certificate c) (size l) v Open variable
+use Rattle.guarantee.proofs.TrimmedTwoRuns.{trimmed-two-runs}
 
 -- ---- the table
 
@@ -119,6 +82,15 @@ benched-trimmed =
       accepts = record { no-number = refl; values = refl };
     }
 
+benched-other : Benches stimuli″ (zeros (take 64 trimmed) 4 16) (written values″ 16) benched.Accepted
+unfolding circuit checkRecords checkStimuli stimulus.stimuli listBelow machine
+benched-other =
+    record {
+      past = record { passed = refl; no-loop = no-loop′; scratch = refl };
+      later = refl;
+      accepts = record { no-number = refl; values = refl };
+    }
+
 certified-trimmed : Certifies (zeros (take 64 trimmed) 32 16) (written certificate′ 16) (certified.Accepted 1)
 unfolding flatMap circuit checkRecords listBelow rule initialStore after rounds definition.certificate
 certified-trimmed = certified-computed (zeros (take 64 trimmed) 32 16) certificate′ 1 refl no-loop′ refl refl refl
@@ -136,6 +108,19 @@ stimuli-renumbered : RenumberedStimuli numbers 4 stimuli stimuli′
 stimuli-renumbered =
     subst (RenumberedStimuli numbers 4 stimuli) list-computed (renumbered-own certified-once trimmed-once benched-once)
 
+-- the second and the third differ in what they poke into the secret input
+alike-places : (i : ℕ) → i < 4
+    → BothTick stimuli′ stimuli″ (i * 8) ⊎ BothPoke (take 64 trimmed) stimuli′ stimuli″ (i * 8)
+alike-places zero h = inr (record { pokes = (refl, refl); same-variable = refl; same-value = inr (refl, refl) })
+alike-places (suc zero) h = inl (refl, refl)
+alike-places (suc (suc zero)) h = inl (refl, refl)
+alike-places (suc (suc (suc zero))) h =
+    inr (record { pokes = (refl, refl); same-variable = refl; same-value = inr (refl, refl) })
+alike-places (suc (suc (suc (suc i)))) h = absurd (omega arith)
+
+stimuli-alike : AlikeStimuli (take 64 trimmed) stimuli′ stimuli″
+stimuli-alike = record { equally-long = refl; alike = alike-places }
+
 -- ---- what is claimed of them
 
 -- the premises hold, two variables are dropped, and the variable that is poked has another number
@@ -143,8 +128,10 @@ pub premises-met : Certifies (zeros table 48 24) (written certificate 24) (certi
     × CallTrims (take 48 certificate) kept trimLent trimLeft (trim.Accepted 4)
     × Benches stimuli (zeros table 6 24) (written values 24) benched.Accepted
     × Benches stimuli′ (zeros (take 64 trimmed) 4 16) (written values′ 16) benched.Accepted
+    × Benches stimuli″ (zeros (take 64 trimmed) 4 16) (written values″ 16) benched.Accepted
     × Certifies (zeros (take 64 trimmed) 32 16) (written certificate′ 16) (certified.Accepted 1)
     × RenumberedStimuli numbers 4 stimuli stimuli′
+    × AlikeStimuli (take 64 trimmed) stimuli′ stimuli″
     × (4 + 2 ≡ length table / 16)
     × (u16At stimuli′ 2 ≡ u16At stimuli 2 → ⊥)
 premises-met = (
@@ -152,8 +139,10 @@ premises-met = (
   trimmed-once,
   benched-once,
   benched-trimmed,
+  benched-other,
   certified-trimmed,
   stimuli-renumbered,
+  stimuli-alike,
   refl,
   λ e. omega arith,
 )
@@ -168,3 +157,7 @@ alike-met =
 pub certificate-met : (j m : ℕ) → j < 4 → m < 8
     → getD certificate′ (j * 8 + m) 0 ≡ getD certificate (getD numbers j 0 * 8 + m) 0
 certificate-met = trimmed-certificate certified-once trimmed-once certified-trimmed
+
+-- and demand 3 of the trimmed table, with its lines of the table's certificate
+pub two-runs-met : ClaimsHold (take 64 trimmed) (survivorLines numbers 4 certificate) values′ values″
+two-runs-met = trimmed-two-runs certified-once trimmed-once benched-trimmed benched-other stimuli-alike

@@ -41,14 +41,19 @@ module _ {t cells scratch cells′ scratch′ : List ℕ} {rounds : ℕ}
   certified-inside =
       circuit-inside t n (table-checked certifying (lent t cells scratch) (p .past .passed) .valid)
 
-  -- the certificate's own bytes hold its facts
-  facts-own : (v : ℕ) → v < length c → factAt (take (n * 8) cells′) v ≡ certificate c v
+  -- what is written are the certificate's facts
+  pub facts-certified : (v : ℕ) → v < length c → factAt cells′ v ≡ certificate c v
+  facts-certified =
+      least-unique c (factAt cells′) (certificate c) (p .accepts .least)
+      (certificate-least c certified-inside (p .past .no-loop))
+
+  -- the certificate's own bytes hold them
+  pub facts-own : (v : ℕ) → v < length c → factAt (take (n * 8) cells′) v ≡ certificate c v
   facts-own v below =
       let variable : v < n = rw (circuit-length t n) at below in
       facts-laws .local (take (n * 8) cells′) cells′ (v * 8) (v * 8)
       (λ m h. getD-take (n * 8) cells′ (v * 8 + m) 0 (omega arith))
-      ∙ least-unique c (factAt cells′) (certificate c) (p .accepts .least)
-      (certificate-least c certified-inside (p .past .no-loop)) v below
+      ∙ facts-certified v below
 
   module _ {kept first second scratch₁ first′ numbers scratch₁′ : List ℕ} {k : ℕ}
       (q : CallTrims (take (length t / 16 * 8) cells′) kept (trim-call.lent t first second scratch₁)

@@ -9,7 +9,7 @@ use Prim.Native.Nat.{ℕ, _+_, _*_, _/_, _<_}
 use native.Mathlib.Omega.{arith}
 use lib.ListN.{length, getD}
 use Rattle.circuit.specs.Number.{u32At}
-use Rattle.circuit.specs.Circuit.{Circuit, circuit}
+use Rattle.circuit.specs.Circuit.{Circuit, circuit, NoLoop}
 use Rattle.circuit.specs.Stimuli.{stimuli}
 use Rattle.circuit.proofs.Tables.{Inside, circuit-length, circuit-inside}
 use Rattle.circuit.proofs.Stimuli.{stimuli-accepted}
@@ -45,6 +45,29 @@ claim-holds cells values values′ v h =
         → (getD values v 0 ≡ u32At cells (v * 8 + 4)) × (getD values′ v 0 ≡ u32At cells (v * 8 + 4))
     always e = claims-always (rw e at h)
 
+-- two accepted bench calls on a table without a loop, on lists that are alike: what bytes that hold its certificate's
+-- facts claim holds of the numbers that they write
+module _ (t cells : List ℕ) (inside : Inside (circuit t (length t / 16))) (noLoop : NoLoop (circuit t (length t / 16)))
+    (own : (v : ℕ) → v < length (circuit t (length t / 16))
+    → factAt cells v ≡ definition.certificate (circuit t (length t / 16)) v) where
+  abbrev n : ℕ
+  n = length t / 16
+
+  abbrev c : Circuit
+  c = circuit t n
+
+  pub facts-guaranteed : {s₁ values₁ scratch₁ values₁′ scratch₁′ s₂ values₂ scratch₂ values₂′ scratch₂′ : List ℕ}
+      → Benches s₁ (lent t values₁ scratch₁) (left values₁′ scratch₁′) benched.Accepted
+      → Benches s₂ (lent t values₂ scratch₂) (left values₂′ scratch₂′) benched.Accepted
+      → AlikeStimuli t s₁ s₂ → ClaimsHold t cells values₁′ values₂′
+  facts-guaranteed {s₁} {values₁′ = values₁′} {s₂ = s₂} {values₂′ = values₂′} q q′ a v below =
+      let variable : v < length c = omega (arith, circuit-length t n) in
+      claim-holds cells values₁′ values₂′ v
+      (rw (own v variable, value-written s₁ _ _ q v below, value-written s₂ _ _ q′ v below)
+      (two-runs-claimed c inside noLoop (stimuli s₁) (stimuli s₂)
+      (stimuli-accepted c s₁ (q .later)) (stimuli-accepted c s₂ (q′ .later))
+      (lists-alike t s₁ s₂ n (q .later) a) v variable))
+
 module _ (t certificate scratch certificate′ scratch′ : List ℕ)
     (values₁ scratch₁ values₁′ scratch₁′ s₁ values₂ scratch₂ values₂′ scratch₂′ s₂ : List ℕ) where
   abbrev Certifying : Certified → Type 0
@@ -58,17 +81,10 @@ module _ (t certificate scratch certificate′ scratch′ : List ℕ)
 
   pub two-runs-guaranteed : {k : ℕ} → Certifying (certified.Accepted k) → First benched.Accepted
       → Second benched.Accepted → AlikeStimuli t s₁ s₂ → ClaimsHold t certificate′ values₁′ values₂′
-  two-runs-guaranteed p q q′ a v below =
-      claim-holds certificate′ values₁′ values₂′ v
-      (rw (
-        least-unique c (factAt certificate′) (definition.certificate c)
-            (p .accepts .least) (certificate-least c inside (p .past .no-loop)) v variable,
-        value-written s₁ _ _ q v below,
-        value-written s₂ _ _ q′ v below,
-      )
-      (two-runs-claimed c inside (p .past .no-loop) (stimuli s₁) (stimuli s₂)
-      (stimuli-accepted c s₁ (q .later)) (stimuli-accepted c s₂ (q′ .later))
-      (lists-alike t s₁ s₂ n (q .later) a) v variable))
+  two-runs-guaranteed p q q′ a =
+      facts-guaranteed t certificate′ inside (p .past .no-loop)
+      (least-unique c (factAt certificate′) (definition.certificate c) (p .accepts .least)
+      (certificate-least c inside (p .past .no-loop))) q q′ a
     where
       n : ℕ
       n = length t / 16
@@ -78,9 +94,6 @@ module _ (t certificate scratch certificate′ scratch′ : List ℕ)
 
       inside : Inside c
       inside = circuit-inside t n (table-checked certifying (lent t certificate scratch) (p .past .passed) .valid)
-
-      variable : v < length c
-      variable = omega (arith, circuit-length t n)
 
   pub calls-guaranteed : (r : Answers) → Certifying (r .certified) → First (r .first) → Second (r .second)
       → Guarantees (lent t certificate scratch) (left certificate′ scratch′) s₁ (lent t values₁ scratch₁)

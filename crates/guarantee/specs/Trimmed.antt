@@ -49,6 +49,12 @@ unfoldable pub renumbered : (ℕ → ℕ) → List ℕ → List ℕ
 unfolding listBelow
 renumbered new s = listBelow (λ m. getD (renumberedAt new s (m / 8 * 8)) (m % 8) 0) (length s)
 
+-- the lines of k variables of a trimmed table, 8 bytes each: those that the certificate has for their old ones
+unfoldable pub survivorLines : List ℕ → ℕ → List ℕ → List ℕ
+unfolding listBelow
+survivorLines numbers k certificate =
+    listBelow (λ m. getD certificate (getD numbers (m / 8) 0 * 8 + m % 8) 0) (k * 8)
+
 -- every number of a list is a byte
 abbrev pub AllBytes : List ℕ → Type 0
 AllBytes s = (m : ℕ) → m < length s → getD s m 0 < 256

@@ -1,6 +1,6 @@
--- Five calls to which the claim of a trimmed table applies: a table of six records of which two are dropped, the one
--- that remains of it, a list of stimuli for each, and the buffers of two certifying calls, a trimming call and two
--- bench calls, before and after.
+-- Six calls to which the claims of a trimmed table apply: a table of six records of which two are dropped, the one that
+-- remains of it, a list of stimuli for each, one for the latter with other secrets, and the buffers of two certifying
+-- calls, a trimming call and three bench calls, before and after.
 -- Assumes nothing.
 use mathlib.Core.List.{List, [], _∷_, _++_}
 use Prim.Native.Nat.{ℕ}
@@ -42,23 +42,30 @@ trimmed =
 abbrev pub numbers : List ℕ
 numbers = 1 ∷ 3 ∷ 4 ∷ 5 ∷ 0 ∷ 0 ∷ []
 
--- 7 is poked into the input of a number; two ticks; 9 is poked into it
-abbrev stimuliOf : ℕ → List ℕ
-stimuliOf v = poke v 7 ++ tick ++ tick ++ poke v 9
+-- x is poked into the input of a number; two ticks; y is poked into it
+abbrev stimuliOf : ℕ → ℕ → ℕ → List ℕ
+stimuliOf v x y = poke v x ++ tick ++ tick ++ poke v y
 
 -- the secret input is variable 1 of the table, and variable 0 of the trimmed one
 abbrev pub stimuli : List ℕ
-stimuli = stimuliOf 1
+stimuli = stimuliOf 1 7 9
 
 abbrev pub stimuli′ : List ℕ
-stimuli′ = stimuliOf 0
+stimuli′ = stimuliOf 0 7 9
 
--- what the two runs end in
+-- on the trimmed table with other secrets
+abbrev pub stimuli″ : List ℕ
+stimuli″ = stimuliOf 0 200 3
+
+-- what the three runs end in
 abbrev pub values : List ℕ
 values = 12 ∷ 9 ∷ 5 ∷ 5 ∷ 14 ∷ 12 ∷ []
 
 abbrev pub values′ : List ℕ
 values′ = 9 ∷ 5 ∷ 14 ∷ 12 ∷ []
+
+abbrev pub values″ : List ℕ
+values″ = 3 ∷ 5 ∷ 8 ∷ 205 ∷ []
 
 -- the trimmed table's certificate: marked, always 5, marked, marked
 abbrev pub certificate′ : List ℕ

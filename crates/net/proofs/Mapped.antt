@@ -12,7 +12,8 @@ use Rattle.net.specs.Net.{Graph, input, wire, register, put, settle, ste
 use Rattle.net.specs.Machine.{run, Renumbered, none, ticks, pokes}
 use Rattle.net.proofs.Cases.{by-same}
 use Rattle.net.proofs.Put.{put-same, put-other}
-use Rattle.net.proofs.Settle.{Ranked, Local, Agree, step-input, step-register, settle-settled, settle-unique, settle-input, settle-register}
+use Rattle.net.proofs.Settle.{Ranked, Local, Agree, step-input, step-register}
+use Rattle.net.proofs.Settle.{settle-settled, settle-unique, settle-input, settle-register}
 
 -- What is asked of the map `old`, from the variables of g′ to those of g, and of the two rules. An input is mapped to
 -- an input and a register to a register, a wire to any variable. `I` is what is known of a store of g.

@@ -16,7 +16,8 @@ use Rattle.net.specs.Net.{Graph, listBelow, sumBelow}
 use Rattle.net.specs.Loop.{Uses}
 use Rattle.net.specs.Reach.{isIn, spread, spreads, reachedSet, ClosedUnderUses}
 use Rattle.net.proofs.Cases.{by-le}
-use Rattle.net.proofs.Bools.{T-of, true-false, not-both, and-left, and-right, and-both, or-cases, or-left, or-right, all-at, passes-below, any-of}
+use Rattle.net.proofs.Bools.{T-of, true-false, not-both, and-left, and-right, and-both}
+use Rattle.net.proofs.Bools.{or-cases, or-left, or-right, all-at, passes-below, any-of}
 use Rattle.net.proofs.Sums.{sum-mono, sum-strict, sum-one}
 use Rattle.net.proofs.Lists.{length-listBelow, getD-listBelow}
 

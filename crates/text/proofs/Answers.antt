@@ -12,9 +12,8 @@ use Rattle.circuit.specs.declared.refusal.Check.the-variants.{Passed}
 use Rattle.circuit.specs.Refusal.{groundNumber}
 use Rattle.circuit.specs.Stimuli.{checkStimuli}
 use Rattle.circuit.proofs.Places.{Refusals, refusals-weaken, stimuli-refusals}
-use Rattle.circuit.proofs.Tables.{circuit-length}
-use Rattle.fact.specs.Fact.{factAt}
-use Rattle.call.specs.Call.{Lent, Left, Answer, accepted, refused, Call, lent, left, outputOf, size, circuitOf, checked, Promises}
+use Rattle.call.specs.Call.{Lent, Left, Answer, accepted, refused, Call}
+use Rattle.call.specs.Call.{lent, left, outputOf, size, circuitOf, checked, Promises}
 use Rattle.call.proofs.Parts.{table-checked, outputs-lent}
 use Rattle.call.proofs.Answers.{row-some, row-most, row-in-scratch, refusal-holds}
 use Rattle.certificate.specs.Promise as certified
@@ -22,9 +21,8 @@ use Rattle.machine.specs.Promise as benched
 use Rattle.bill.specs.Promise.{Bills}
 use Rattle.bill.proofs.Promise.{accepted-small, refused-small}
 use Rattle.trim.specs.Promise as trims
-use Rattle.trim.proofs.Replaced.{replaced-length}
-use Rattle.trim.proofs.Survivors.{survivors-few}
 use Rattle.trim.proofs.Grounds.{trimmable}
+use Rattle.trim.proofs.Promise.{accepted-few}
 use Rattle.text.specs.Text.{refusalLine, loopLine, refusalText}
 use Rattle.text.specs.Prints.{ShowsRow, AnswerStands, BillStands}
 use Rattle.text.specs.declared.Report.{Report}
@@ -91,14 +89,7 @@ trimmed-stands certificate kept t trimmed numbers scratch trimmed′ numbers′ 
     let l = trims.lent t trimmed numbers scratch in
     let table = table-checked (trims.trimming certificate kept) l (p .past .passed) in
     let ready = trimmable t (size l) certificate kept (length trimmed) (length numbers) table (p .later) in
-    let few : k ≤ length t / 16 =
-    omega (
-      arith,
-      p .accepts .count,
-      survivors-few (trims.called certificate kept l) kept,
-      replaced-length (circuitOf l) (factAt certificate),
-      circuit-length t (size l),
-    ) in
+    let few = accepted-few certificate kept l p in
     (omega (arith, table .small), omega (arith, ready .trimmed-lent), omega (arith, ready .numbers-lent))
 trimmed-stands certificate kept t trimmed numbers scratch trimmed′ numbers′ scratch′ long many (refused g place) p =
     (omega arith, omega arith, omega arith)

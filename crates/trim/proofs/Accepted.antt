@@ -21,12 +21,12 @@ use Rattle.trim.specs.declared.Trimmed.the-variants.{Accepted}
 use Rattle.trim.specs.Trimmed.{replaced, survivors, trimmed}
 use Rattle.trim.specs.Ready.{Trimmable}
 use Rattle.trim.specs.Promise.{lent, left, secondOf, trimming, CallTrims}
-use Rattle.trim.proofs.Replaced.{replaced-length}
 use Rattle.trim.proofs.Grounds.{trimmable}
-use Rattle.trim.proofs.Survivors.{oldNumber, survivors-few, trimmed-length}
+use Rattle.trim.proofs.Survivors.{oldNumber, trimmed-length}
 use Rattle.trim.proofs.Loops.{trimmed-no-loop}
 use Rattle.trim.proofs.Validity.{AllValid, circuit-valid, trimmed-valid}
 use Rattle.trim.proofs.Bytes.{records-length, written-pass, written-circuit}
+use Rattle.trim.proofs.Promise.{accepted-few}
 
 -- none of grounds 1 and 2 holds of at most 4,096 whole records
 pub length-passes : (n : ℕ) → n ≤ 4096 → checkLength (n * 16) ≡ Passed
@@ -68,14 +68,7 @@ module _ {certificate kept t first second scratch first′ second′ scratch′ 
 
   -- it is at most that of the table's
   pub trimmed-few : k ≤ n
-  trimmed-few =
-      omega (
-        arith,
-        p .accepts .count,
-        survivors-few c₁ kept,
-        replaced-length c (factAt certificate),
-        circuit-length t n,
-      )
+  trimmed-few = accepted-few certificate kept l p
 
   valid : AllValid c′
   valid =

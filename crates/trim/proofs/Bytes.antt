@@ -3,31 +3,26 @@
 -- Assumes nothing.
 use mathlib.Core.Path.{_≡_, refl, sym, ap, _∙_}
 use mathlib.Core.List.{List, [], _∷_, _++_, flatMap, append-assoc}
-use Prim.Native.Nat.{ℕ, zero, suc, _+_, _*_, _^_, _<_, _≤_}
-use native.Mathlib.Nat.{not-suc-le-zero, le-of-suc-le-suc, zero-mul, zero-add, suc-mul, pow-le-pow-right}
+use Prim.Native.Nat.{ℕ, zero, suc, _+_, _*_, _<_, _≤_}
+use native.Mathlib.Nat.{not-suc-le-zero, le-of-suc-le-suc, zero-mul, zero-add, suc-mul}
 use native.Mathlib.Omega.{arith}
-use lib.Dec.{T, lit<}
 use lib.ListN.{length, getD, length-append, List·getD-append}
 use lib.Seq.{ext-getD, getD-append-add}
-use Rattle.net.specs.Tests.{member}
-use Rattle.net.proofs.Bools.{member-1, member-2, member-3}
 use Rattle.circuit.specs.declared.record.InputKind.the-variants.{Fixed}
-use Rattle.circuit.specs.declared.record.Record.{Record}
-use Rattle.circuit.specs.declared.record.Record.the-variants.{Input, Constant, Operator, Multiplexer, Register, Enabled}
+use Rattle.circuit.specs.declared.record.Record.the-variants.{Input}
 use Rattle.circuit.specs.declared.refusal.Check.the-variants.{Passed}
-use Rattle.circuit.specs.Record.{uses}
 use Rattle.circuit.specs.Reading.{fieldsAt, decode, encode, recordBytes}
 use Rattle.circuit.specs.Circuit.{Circuit, circuit, recordOf}
 use Rattle.circuit.specs.Checks.{checkRecords}
-use Rattle.circuit.proofs.Records.{Valid, decode-encode, valid-uses}
+use Rattle.circuit.proofs.Records.{decode-encode}
 use Rattle.circuit.proofs.Tables.{records-pass, circuit-length, circuit-record}
-use Rattle.trim.proofs.Cells.{field-laws, Small, fields-read}
+use Rattle.trim.proofs.Cells.{field-laws, valid-small, fields-read}
 use Rattle.trim.proofs.Validity.{AllValid}
 
 -- ---- parts of one length, one after another
 
 module _ {A : Type 0} (image : A → List ℕ) (each : ℕ) (size : (x : A) → length (image x) ≡ each) where
-  parts-length : (xs : List A) → length (flatMap image xs) ≡ length xs * each
+  pub parts-length : (xs : List A) → length (flatMap image xs) ≡ length xs * each
   unfolding flatMap
   parts-length [] = sym (zero-mul each)
   parts-length (x ∷ xs) =
@@ -48,32 +43,6 @@ module _ {A : Type 0} (image : A → List ℕ) (each : ℕ) (size : (x : A) → 
       (getD-append-add (image x) (flatMap image xs ++ rest) (i * each + k) 0
       ∙ part-at xs rest i k d (le-of-suc-le-suc h) l)
 
--- ---- one record
-
-encode-fits : (r : Record) → ((u : ℕ) → T (member u (uses r)) → u < 2 ^ 16) → encode r .value < 2 ^ 32
-    → Small (encode r)
-encode-fits (Input w k) h x = record { a = lit< tt; b = lit< tt; c = lit< tt; bytes10 = lit< tt; value = x }
-encode-fits (Constant w n) h x = record { a = lit< tt; b = lit< tt; c = lit< tt; bytes10 = lit< tt; value = x }
-encode-fits (Operator w op a b) h x =
-    record { a = h a (member-1 _ _); b = h b (member-2 _ _ _); c = lit< tt; bytes10 = lit< tt; value = x }
-encode-fits (Multiplexer w a b c) h x =
-    record {
-      a = h a (member-1 _ _);
-      b = h b (member-2 _ _ _);
-      c = h c (member-3 _ _ _ _);
-      bytes10 = lit< tt;
-      value = x;
-    }
-encode-fits (Register w a n) h x =
-    record { a = h a (member-1 _ _); b = lit< tt; c = lit< tt; bytes10 = lit< tt; value = x }
-encode-fits (Enabled w a b n) h x =
-    record { a = h a (member-1 _ _); b = h b (member-2 _ _ _); c = lit< tt; bytes10 = lit< tt; value = x }
-
-valid-fits : (r : Record) (n : ℕ) → n ≤ 65536 → Valid (encode r) n → Small (encode r)
-valid-fits r n few v =
-    encode-fits r (λ u m. omega (arith, valid-uses r n v u m))
-    (omega (arith, v .value, pow-le-pow-right {n = 2} (lit< tt) (v .width-most)))
-
 -- ---- a table of records
 
 -- 16 bytes a record
@@ -90,7 +59,8 @@ module _ (rs : Circuit) (rest : List ℕ) (few : length rs ≤ 65536) (valid : A
   written-fields i h =
       field-laws .local t (recordBytes (recordOf rs i)) (i * 16) 0
       (λ m q. rw (zero-add m) (part-at recordBytes 16 (λ r. refl) rs rest i m (Input 1 (Fixed 0)) h q))
-      ∙ fields-read (encode (recordOf rs i)) (valid-fits (recordOf rs i) (length rs) few (valid i h))
+      ∙ fields-read (encode (recordOf rs i))
+      (valid-small (encode (recordOf rs i)) (length rs) (omega arith) few (valid i h))
 
   -- all pass
   pub written-pass : checkRecords t (length rs) ≡ Passed

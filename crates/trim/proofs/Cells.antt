@@ -3,17 +3,26 @@
 use mathlib.Core.Path.{_≡_, refl, sym, ap, _∙_, subst}
 use mathlib.Core.List.{List, [], _∷_}
 use Prim.Native.Nat.{ℕ, suc, _+_, _^_, _<_, _≤_}
-use native.Mathlib.Nat.{add-suc}
+use native.Mathlib.Nat.{add-suc, pow-le-pow-right}
 use native.Mathlib.Numerals.{add-one}
 use native.Mathlib.Omega.{arith}
+use borrow.Author.Tests.{eqb-true}
+use lib.Dec.{T, eqb, lit<}
 use lib.ListN.{length, getD, set}
 use lib.Seq.{sets}
+use Rattle.net.specs.Tests.{member}
+use Rattle.net.proofs.Bools.{T-of, of-T, every-at, member-1, member-2, member-3}
 use Rattle.buffer.specs.Store.{Wrote}
 use Rattle.buffer.proofs.Layouts.{LayoutLaws, wrote-sets}
 use Rattle.circuit.specs.declared.record.Fields.{Fields}
-use Rattle.circuit.specs.Reading.{fieldsAt, fieldBytes}
+use Rattle.circuit.specs.declared.record.Record.{Record}
+use Rattle.circuit.specs.declared.record.Record.the-variants.{Input, Constant, Operator, Multiplexer, Register, Enabled}
+use Rattle.circuit.specs.Record.{uses}
+use Rattle.circuit.specs.Reading.{fieldsAt, decode, encode, fieldBytes}
+use Rattle.circuit.proofs.Records.{Valid, valid-uses}
+use Rattle.circuit.proofs.Numbers.{fields-encoded}
 use Rattle.circuit.proofs.Words.{u16-bytes, u32-bytes}
-use Rattle.trim.specs.Cells.{fieldCells}
+use Rattle.trim.specs.Cells.{fieldCells, Below}
 
 pub field-laws : LayoutLaws fieldCells
 field-laws =
@@ -42,6 +51,26 @@ field-laws =
           );
     }
 
+-- ---- their variable numbers
+
+encode-below : (n : ℕ) (r : Record) → ((u : ℕ) → T (member u (uses r)) → u < n) → 0 < n → Below n (encode r)
+encode-below n (Input w k) h some = record { a = some; b = some; c = some }
+encode-below n (Constant w x) h some = record { a = some; b = some; c = some }
+encode-below n (Operator w op a b) h some = record { a = h a (member-1 _ _); b = h b (member-2 _ _ _); c = some }
+encode-below n (Multiplexer w a b c) h some =
+    record { a = h a (member-1 _ _); b = h b (member-2 _ _ _); c = h c (member-3 _ _ _ _) }
+encode-below n (Register w a x) h some = record { a = h a (member-1 _ _); b = some; c = some }
+encode-below n (Enabled w a b x) h some = record { a = h a (member-1 _ _); b = h b (member-2 _ _ _); c = some }
+
+-- of fields of which none of grounds 5 to 10 holds, A, B and C are below the number of records: one that is not used
+-- is 0
+pub fields-below : (f : Fields) (n : ℕ) → Valid f n → 0 < n → Below n f
+fields-below f n v some =
+    let is = fields-encoded f n v in
+    subst (Below n) (sym is) (encode-below n (decode f) (valid-uses (decode f) n (subst (λ g. Valid g n) is v)) some)
+
+-- ---- reading and writing
+
 -- the fields are numbers of 16 and of 32 bits
 pub record Small (f : Fields) : Type 0 where
   pub a : f .a < 2 ^ 16
@@ -49,6 +78,20 @@ pub record Small (f : Fields) : Type 0 where
   pub c : f .c < 2 ^ 16
   pub bytes10 : f .bytes10 < 2 ^ 16
   pub value : f .value < 2 ^ 32
+
+-- none of grounds 5 to 10 holds of them, in a table of at most 65,536 records
+pub valid-small : (f : Fields) (n : ℕ) → 0 < n → n ≤ 65536 → Valid f n → Small f
+valid-small f n some few v =
+    let below = fields-below f n v some in
+    let zero-bytes : f .bytes10 ≡ 0 =
+    eqb-true _ _ (of-T _ (every-at (λ x. eqb x 0) _ (T-of _ (v .zeros)) (f .bytes10) (member-2 _ _ _))) in
+    record {
+      a = omega (arith, below .a);
+      b = omega (arith, below .b);
+      c = omega (arith, below .c);
+      bytes10 = omega arith;
+      value = omega (arith, v .value, pow-le-pow-right {n = 2} (lit< tt) (v .width-most));
+    }
 
 -- they are read back
 pub fields-read : (f : Fields) → Small f → fieldsAt (fieldBytes f) 0 ≡ f

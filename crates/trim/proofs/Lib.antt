@@ -1,6 +1,8 @@
 pub mod Replaced
-pub mod Marking
+pub mod Visiting
 pub mod Grounds
+pub mod Places
+pub mod Passing
 pub mod Cells
 pub mod RenumberedFields
 pub mod Numbering
@@ -15,6 +17,7 @@ pub mod Following
 pub mod Machines
 pub mod Certificates
 pub mod Validity
+pub mod Own
 pub mod Bytes
 pub mod Accepted
 pub mod Unread

@@ -1,4 +1,4 @@
--- Which variables remain, and their numbers written behind the marks: the start, a turn and the end.
+-- Which variables remain, and their numbers written behind the flags: the start, a turn and the end.
 -- Assumes nothing.
 use mathlib.Core.Path.{_≡_, refl, sym, ap, _∙_}
 use mathlib.Core.Bool.{Bool, true, false, not, _||_}
@@ -28,11 +28,11 @@ module _ (t : List ℕ) (n v : ℕ) (h : v < n) (s : List ℕ) where
   pub input-remains : fieldsAt t (v * 16) .kind ≡ 0 → true ≡ remains (circuit t n) s v
   input-remains e = rw (remains-here, e)
 
-  pub marked-remains : (getD s v 0 ≡ 0 → ⊥) → (fieldsAt t (v * 16) .kind ≡ 0 → ⊥) → true ≡ remains (circuit t n) s v
-  marked-remains m ne = rw (remains-here, ne-eqb (fieldsAt t (v * 16) .kind) 0 ne, ne-eqb (getD s v 0) 0 m)
+  pub visited-remains : (getD s v 0 ≡ 0 → ⊥) → (fieldsAt t (v * 16) .kind ≡ 0 → ⊥) → true ≡ remains (circuit t n) s v
+  visited-remains m ne = rw (remains-here, ne-eqb (fieldsAt t (v * 16) .kind) 0 ne, ne-eqb (getD s v 0) 0 m)
 
-  pub unmarked-drops : getD s v 0 ≡ 0 → (fieldsAt t (v * 16) .kind ≡ 0 → ⊥) → false ≡ remains (circuit t n) s v
-  unmarked-drops e ne = rw (remains-here, ne-eqb (fieldsAt t (v * 16) .kind) 0 ne, e)
+  pub unvisited-drops : getD s v 0 ≡ 0 → (fieldsAt t (v * 16) .kind ≡ 0 → ⊥) → false ≡ remains (circuit t n) s v
+  unvisited-drops e ne = rw (remains-here, ne-eqb (fieldsAt t (v * 16) .kind) 0 ne, e)
 
 pub remains-agree : (c : Circuit) (s s′ : List ℕ) (v : ℕ) → getD s v 0 ≡ getD s′ v 0 → remains c s v ≡ remains c s′ v
 remains-agree c s s′ v e = rw e
@@ -99,7 +99,7 @@ module _ (t : List ℕ) (n : ℕ) (entry : List ℕ) where
     pub all-numbered : n ≤ i → (count ≡ placeOf p n) × Filled n n (placeOf p) entry s
     all-numbered h = let e : i ≡ n = omega (arith, q .within) in (rw e at (q .counted), rw e at (q .filled))
 
--- what is written behind the marks leaves them as they were
+-- what is written behind the flags leaves them as they were
 pub numbered : (t : List ℕ) (n : ℕ) (entry s : List ℕ) → n + n ≤ length entry
     → Filled n n (placeOf (remains (circuit t n) entry)) entry s → Numbered t n s
 numbered t n entry s room filled =

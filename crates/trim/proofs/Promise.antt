@@ -6,29 +6,28 @@ use mathlib.Core.List.{List, [], _∷_, _++_, flatMap}
 use Prim.Native.Nat.{ℕ, _-_, _*_, _≤_}
 use native.Mathlib.Omega.{arith}
 use lib.ListN.{length, drop, replicate, length-replicate}
-use lib.Seq.{drop-append-seam}
+use lib.Seq.{drop-at}
 use Rattle.buffer.specs.Kept.{Filled}
 use Rattle.buffer.proofs.Filled.{outside-none, part-cleared}
 use Rattle.circuit.specs.declared.refusal.Check.the-variants.{Passed}
 use Rattle.circuit.specs.Reading.{recordBytes}
 use Rattle.circuit.proofs.Tables.{circuit-length}
+use Rattle.fact.specs.Fact.{factAt}
 use Rattle.schedule.specs.Schedule.{IsOrder}
 use Rattle.schedule.proofs.Orders.{order-room}
-use Rattle.call.specs.Call.{Lent, Left, Answer, accepted, refused, outputOf, size, circuitOf, checked, part, PastEleven, Promises}
+use Rattle.call.specs.Call.{Lent, Left, Answer, accepted, refused, outputOf, size, circuitOf, checked, part}
+use Rattle.call.specs.Call.{PastEleven, Promises}
 use Rattle.call.proofs.Parts.{past-eleven}
 use Rattle.call.proofs.Contents.{BothLoops, contents-fixed}
 use Rattle.trim.specs.declared.Trimmed.{Trimmed}
 use Rattle.trim.specs.declared.Trimmed.the-variants.{Accepted, Refused}
 use Rattle.trim.specs.Trimmed.{survivors, trimmed}
-use Rattle.trim.specs.Promise.{room, lent, left, secondOf, called, Trims, trimming, answerOf, TrimsPast, CallTrims}
+use Rattle.trim.specs.Promise.{room, lent, left, secondOf, called, Trims, trimming, answerOf, TrimsPast}
+use Rattle.trim.specs.Promise.{CallTrims}
+use Rattle.trim.proofs.Replaced.{replaced-length}
+use Rattle.trim.proofs.Survivors.{survivors-few}
 
 module _ (certificate kept t first second : List ℕ) where
-  -- zeros over a part, and what lay past it
-  past-zeros : (k : ℕ) (rest : List ℕ) → drop k (replicate k 0 ++ rest) ≡ rest
-  past-zeros k rest =
-      ap (λ (j : ℕ). drop j (replicate k 0 ++ rest)) (sym (length-replicate k 0))
-      ∙ drop-append-seam (replicate k 0) rest
-
   -- what an accepted table leaves
   pub trims : {scratch first′ second′ scratch′ : List ℕ} {k : ℕ}
       → let l = lent t first second scratch in trimming certificate kept .later l ≡ Passed
@@ -72,13 +71,27 @@ module _ (certificate kept t first second : List ℕ) where
               past =
                   past (e ∙ ap (λ (rest : List ℕ). replicate (part (trimming certificate kept) l) 0 ++ rest)
                   (ap (drop (part (trimming certificate kept) l)) cleared
-                  ∙ past-zeros (part (trimming certificate kept) l) (drop (part (trimming certificate kept) l) ordered))
+                  ∙ drop-at (replicate (part (trimming certificate kept) l) 0)
+                  (drop (part (trimming certificate kept) l) ordered) (part (trimming certificate kept) l)
+                  (length-replicate (part (trimming certificate kept) l) 0))
                   ∙ sym cleared);
               later = later;
               accepts = record { count = p .count; written = p .written };
             }
         past-promises _ (refused g place) (first-of, outputs, e) =
             inr (inr (record { past = past e; first = first-of; outputs = outputs }))
+
+-- an accepted call writes at most as many records as the table has
+pub accepted-few : (certificate kept : List ℕ) (l : Lent) {e : Left} {k : ℕ}
+    → Promises (trimming certificate kept) l e (accepted k) → k ≤ size l
+accepted-few certificate kept l p =
+    omega (
+      arith,
+      p .accepts .count,
+      survivors-few (called certificate kept l) kept,
+      replaced-length (circuitOf l) (factAt certificate),
+      circuit-length (l .table) (size l),
+    )
 
 -- two accepted calls on what is lent alike carry the same number and leave the same
 trims-determined : (certificate kept : List ℕ) (l : Lent) (o o′ : List (List ℕ)) (k k′ : ℕ)

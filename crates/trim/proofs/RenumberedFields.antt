@@ -1,22 +1,21 @@
 -- A survivor's record by the fields of its record in the table: the same with other variable numbers, or a constant.
 -- Assumes nothing.
-use mathlib.Core.Path.{_≡_, refl, sym, ap, _∙_, subst}
+use mathlib.Core.Path.{_≡_, refl, sym, ap, _∙_}
 use mathlib.Core.Bool.{Bool, true, false, not, _&&_}
 use mathlib.Core.List.{List}
 use Prim.Native.Nat.{ℕ, _+_, _*_, _<_}
 use native.Mathlib.Omega.{arith}
-use borrow.Author.Tests.{ltb-true, eqb-true, not-true, eq-eqb, ne-eqb}
-use lib.Dec.{T, eqb, ltb}
+use borrow.Author.Tests.{eqb-true, not-true, eq-eqb, ne-eqb}
+use lib.Dec.{eqb}
 use lib.ListN.{getD}
-use Rattle.net.specs.Tests.{every, member}
 use Rattle.net.specs.Chosen.{placeOf}
-use Rattle.net.proofs.Bools.{T-of, of-T, true-false, every-at, member-1, member-2, member-3}
+use Rattle.net.proofs.Bools.{true-false}
 use Rattle.net.proofs.Cases.{by-same}
 use Rattle.circuit.specs.declared.record.Fields.{Fields}
 use Rattle.circuit.specs.declared.record.Record.{Record}
 use Rattle.circuit.specs.declared.record.Record.the-variants.{Input, Constant, Operator, Multiplexer, Register, Enabled}
 use Rattle.circuit.specs.Number.{u32At}
-use Rattle.circuit.specs.Record.{uses, renumber}
+use Rattle.circuit.specs.Record.{renumber}
 use Rattle.circuit.specs.Reading.{fieldsAt, decode, encode}
 use Rattle.circuit.specs.Circuit.{circuit, recordOf}
 use Rattle.circuit.specs.Checks.{Checked}
@@ -30,6 +29,7 @@ use Rattle.trim.specs.Trimmed.{replace, replaced}
 use Rattle.trim.specs.Ready.{remains, Numbered}
 use Rattle.trim.specs.Cells.{Below, renumberFields, survivorFields}
 use Rattle.trim.proofs.Replaced.{replace-always, replace-input, replace-other, replaced-record}
+use Rattle.trim.proofs.Cells.{fields-below}
 
 -- ---- fields with other variable numbers
 
@@ -45,22 +45,6 @@ renumber-encode new (Enabled w a b n) z = rw z
 pub fields-renumbered : (new : ℕ → ℕ) (f : Fields) (n : ℕ) → Valid f n → new 0 ≡ 0
     → renumberFields new f ≡ encode (renumber new (decode f))
 fields-renumbered new f n v z = ap (renumberFields new) (fields-encoded f n v) ∙ renumber-encode new (decode f) z
-
-encode-below : (n : ℕ) (r : Record) → every (λ v. ltb v n) (uses r) ≡ true → 0 < n → Below n (encode r)
-encode-below n r e some = go r (λ u m. ltb-true u n (of-T _ (every-at (λ v. ltb v n) (uses r) (T-of _ e) u m)))
-  where
-    go : (r : Record) → ((u : ℕ) → T (member u (uses r)) → u < n) → Below n (encode r)
-    go (Input w k) h = record { a = some; b = some; c = some }
-    go (Constant w x) h = record { a = some; b = some; c = some }
-    go (Operator w op a b) h = record { a = h a (member-1 _ _); b = h b (member-2 _ _ _); c = some }
-    go (Multiplexer w a b c) h =
-        record { a = h a (member-1 _ _); b = h b (member-2 _ _ _); c = h c (member-3 _ _ _ _) }
-    go (Register w a x) h = record { a = h a (member-1 _ _); b = some; c = some }
-    go (Enabled w a b x) h = record { a = h a (member-1 _ _); b = h b (member-2 _ _ _); c = some }
-
-pub fields-below : (f : Fields) (n : ℕ) → Valid f n → 0 < n → Below n f
-fields-below f n v some =
-    subst (Below n) (sym (fields-encoded f n v)) (encode-below n (decode f) (v .variables) some)
 
 -- ---- a survivor's fields
 
@@ -113,10 +97,10 @@ module _ (t : List ℕ) (n : ℕ) (certificate s : List ℕ) (v : ℕ) (table : 
     pub renumbered-survives : Numbered t n s → constant f ≡ false
         → renumberFields (λ u. getD s (n + u) 0) f ≡ survivorFields t n certificate s v
     unfolding placeOf
-    renumbered-survives marks told =
+    renumbered-survives numbered told =
         let b = survivor-below in
         let found : renumberFields (λ u. getD s (n + u) 0) f ≡ renumberFields new f =
-        rw (marks .number (f .a) (b .a), marks .number (f .b) (b .b), marks .number (f .c) (b .c)) in
+        rw (numbered .number (f .a) (b .a), numbered .number (f .b) (b .b), numbered .number (f .c) (b .c)) in
         found
         ∙ fields-renumbered new f n (rw e valid) refl
         ∙ sym (ap (λ (r : Record). encode (renumber new r)) (record-is ∙ stays told))

@@ -29,7 +29,7 @@ use Rattle.fact.specs.Fact.{factOf, factAt}
 use Rattle.fact.proofs.Cells.{fact-past}
 use Rattle.trim.specs.Trimmed.{replace, replaced}
 use Rattle.trim.specs.Ready.{remains}
-use Rattle.trim.specs.Marks.{InsideOf}
+use Rattle.trim.specs.Visits.{InsideOf}
 
 -- ---- one record
 
@@ -141,8 +141,8 @@ module _ (c : Circuit) (s : ℕ → Fact) where
       past d h = List·getD-eq-default d (Input 1 (Fixed 0)) h
 
   -- the same variables remain
-  pub remains-replaced : (marks : List ℕ) (v : ℕ) → remains (replaced c s) marks v ≡ remains c marks v
-  remains-replaced marks v = ap (λ (b : Bool). b || not (eqb (getD marks v 0) 0)) (replaced-input v)
+  pub remains-replaced : (flags : List ℕ) (v : ℕ) → remains (replaced c s) flags v ≡ remains c flags v
+  remains-replaced flags v = ap (λ (b : Bool). b || not (eqb (getD flags v 0) 0)) (replaced-input v)
 
 -- stores that agree on the circuit's variables give one circuit
 pub replaced-agree : (c : Circuit) (s s′ : ℕ → Fact) → ((v : ℕ) → v < length c → s v ≡ s′ v)

@@ -11,7 +11,8 @@ use Rattle.net.specs.Tests.{member}
 use Rattle.net.specs.Loop.{Uses}
 use Rattle.net.specs.Reach.{isIn, reachedSet}
 use Rattle.net.proofs.Bools.{T-of, of-T, or-cases, or-left, or-right}
-use Rattle.net.proofs.Chosen.{chosen-length, chosen-place, chosen-passes, place-chosen, place-strict, place-most, chosen-ascends}
+use Rattle.net.proofs.Chosen.{chosen-length, chosen-place, chosen-passes}
+use Rattle.net.proofs.Chosen.{place-chosen, place-strict, place-most, chosen-ascends}
 use Rattle.net.proofs.Reach.{reached-closed}
 use Rattle.circuit.specs.Record.{uses, inputOf, renumber}
 use Rattle.circuit.specs.Circuit.{Circuit, recordOf, graph}

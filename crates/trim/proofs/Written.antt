@@ -1,4 +1,4 @@
--- From what is marked and what is written to the definitions: what remains is what survives, and the outputs hold the
+-- From what is visited and what is written to the definitions: what remains is what survives, and the outputs hold the
 -- trimmed circuit's records and the survivors' old numbers.
 -- Assumes nothing.
 use mathlib.Core.Path.{_≡_, refl, sym, ap, _∙_, fun-ext}
@@ -27,7 +27,7 @@ use Rattle.fact.specs.Fact.{factAt}
 use Rattle.trim.specs.Trimmed.{replaced, survives, survivors, newNumber, trimmed}
 use Rattle.trim.specs.Ready.{remains}
 use Rattle.trim.specs.Cells.{fieldCells, survivorFields}
-use Rattle.trim.specs.Marks.{MarksReached}
+use Rattle.trim.specs.Visits.{VisitsReached}
 use Rattle.trim.proofs.Cells.{field-laws}
 use Rattle.trim.proofs.Replaced.{replaced-length, remains-replaced}
 
@@ -46,9 +46,9 @@ bytes-map (r ∷ rs) = ap (λ (l : List ℕ). recordBytes r ++ l) (bytes-map rs)
 
 -- ---- the scratch
 
--- marks and then numbers behind them lie in the first n + n
-pub numbers-outside : {n : ℕ} {f : ℕ → ℕ} {entry marked numbered : List ℕ} → Kept (n + n) entry marked
-    → Filled n n f marked numbered → KeptOutside 0 (n + n) entry numbered
+-- flags and then numbers behind them lie in the first n + n
+pub numbers-outside : {n : ℕ} {f : ℕ → ℕ} {entry visited numbered : List ℕ} → Kept (n + n) entry visited
+    → Filled n n f visited numbered → KeptOutside 0 (n + n) entry numbered
 numbers-outside k filled =
     record {
       long = filled .long ∙ k .long;
@@ -77,15 +77,16 @@ module _ (t certificate kept : List ℕ) (n : ℕ) where
   size : length c ≡ n
   size = replaced-length (circuit t n) (factAt certificate) ∙ circuit-length t n
 
-  -- marks that stay mark the same
-  pub marks-stay : {s s′ : List ℕ} {f : ℕ → ℕ} → Filled n n f s s′ → MarksReached c kept n s → MarksReached c kept n s′
-  marks-stay filled m =
+  -- where the flags stay, the same is visited
+  pub visits-stay : {s s′ : List ℕ} {f : ℕ → ℕ} → Filled n n f s s′ → VisitsReached c kept n s
+      → VisitsReached c kept n s′
+  visits-stay filled m =
       record {
         sound = λ v h. rw (filled .before v h) (m .sound v h);
         whole = λ v h. rw (filled .before v h) (m .whole v h);
       }
 
-  module _ {s : List ℕ} (m : MarksReached c kept n s) where
+  module _ {s : List ℕ} (m : VisitsReached c kept n s) where
     remains-called : (v : ℕ) → remains c s v ≡ survives c kept v
     unfolding survives
     remains-called v =

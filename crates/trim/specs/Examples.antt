@@ -24,8 +24,9 @@ use Rattle.trim.specs.Order.{checkKept, checkCertificate, checkTrim}
 abbrev blockB : Circuit
 blockB = circuit (flatten (caseB .records)) 7
 
--- an enabled counter: secret data 0, a free enable 1, the constant 3 (2), their sum (3), a register (4) that takes it
--- where the enable is not 0, a multiplexer (5) of it and of a plain register (6) that copies it, by the enable
+-- an enabled counter: a secret input that nothing uses (0), a free enable (1), the constant 3 (2), the sum of it and of
+-- 4 (3), a register that takes the sum where the enable is not 0 (4), a multiplexer of 4 and 6 by the enable (5), and a
+-- plain register that copies 4 (6)
 abbrev counter : Circuit
 counter =
     Input 8 Secret

@@ -1,7 +1,7 @@
 -- The trimming call: what it asks, and what an accepted call leaves in both outputs. Its promise is that of every call
 -- on a table.
 -- Assumes nothing.
-use mathlib.Core.Path.{_≡_}
+use mathlib.Core.Path.{_≡_, refl}
 use mathlib.Core.List.{List, [], _∷_, _++_, flatMap}
 use Prim.Native.Nat.{ℕ, _*_}
 use lib.ListN.{length, drop}
@@ -9,8 +9,10 @@ use Rattle.circuit.specs.declared.refusal.Check.the-variants.{Passed}
 use Rattle.circuit.specs.Refusal.{groundNumber, Finds}
 use Rattle.circuit.specs.Reading.{recordBytes}
 use Rattle.circuit.specs.Circuit.{Circuit}
+use Rattle.circuit.specs.Checks.{checkRecords}
 use Rattle.fact.specs.Fact.{factAt}
 use Rattle.call.specs.Call.{Lent, Left, Answer, accepted, refused, Call, outputOf, circuitOf, scratchCleared, Promises}
+use Rattle.call.specs.Asks.{foundOf}
 use Rattle.trim.specs.declared.Trimmed.{Trimmed}
 use Rattle.trim.specs.declared.Trimmed.the-variants.{Accepted, Refused}
 use Rattle.trim.specs.Trimmed.{replaced, survivors, trimmed}
@@ -79,3 +81,9 @@ TrimsPast certificate kept l e (refused g place) =
 -- the promise: what holds of the buffers and the answer
 abbrev pub CallTrims : List ℕ → List ℕ → Lent → Left → Trimmed → Type 0
 CallTrims certificate kept l e r = Promises (trimming certificate kept) l e (answerOf r)
+
+-- what it asks before ground 11, computed: of a table of one record four numbers of scratch, one less is refused, and
+-- nothing of an output, which ground 3 would ask for
+pub asks-hold : (foundOf (trimming [] []) 0 3 ∷ foundOf (trimming [] []) 0 4 ∷ []) ≡ (4 ∷ 0 ∷ []) ∷ [] ∷ []
+unfolding checkRecords
+asks-hold = refl

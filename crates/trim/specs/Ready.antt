@@ -1,5 +1,5 @@
--- What the passes of trimming work with: a checked table, a certificate that meets ground 22, room for both outputs,
--- and which variables remain. Each is one premise of a contract.
+-- What the passes of trimming work with: a checked table, a certificate that ground 22 lets pass, room for both
+-- outputs, and which variables remain. Each is one premise of a contract.
 -- Assumes nothing.
 use mathlib.Core.Path.{_≡_}
 use mathlib.Core.Bool.{Bool, not, _||_}
@@ -22,8 +22,8 @@ FactFits w (Always m) = m < 2 ^ w
 FactFits w Open = Unit {0}
 FactFits w Marked = Unit {0}
 
--- none of grounds 20 to 22 holds of a checked table: the kept variables are its variables, so much is lent for the
--- trimmed table and for the old numbers, and the certificate has a fact a variable, which fits it
+-- what is known of a checked table where none of grounds 20 to 22 holds: the kept variables are its variables, so much
+-- is lent for the trimmed table and for the old numbers, and the certificate has a fact a variable, which fits it
 pub record Trimmable (t : List ℕ) (n : ℕ) (certificate kept : List ℕ) (trimmed numbers : ℕ) : Type 0 where
   pub table : Checked t n
   pub kept-below : (i : ℕ) → i < length kept → getD kept i 0 < n
@@ -32,11 +32,11 @@ pub record Trimmable (t : List ℕ) (n : ℕ) (certificate kept : List ℕ) (tri
   pub certificate-long : length certificate ≡ n * 8
   pub fits : (v : ℕ) → v < n → FactFits (width (recordOf (circuit t n) v)) (factAt certificate v)
 
--- v remains: it is an input, or it is marked in the scratch, where a number that is not 0 stands at place v
+-- v remains: it is an input, or it is visited, where a flag that is not 0 stands at place v of the scratch
 abbrev pub remains : Circuit → List ℕ → ℕ → Bool
 remains c s v = isInput (inputOf (recordOf c v)) || not (eqb (getD s v 0) 0)
 
--- behind the marks of the n variables stands the number of each among those that remain
+-- behind the flags of the n variables stands the number of each among those that remain
 pub record Numbered (t : List ℕ) (n : ℕ) (s : List ℕ) : Type 0 where
   pub room : n + n ≤ length s
   pub number : (v : ℕ) → v < n → getD s (n + v) 0 ≡ placeOf (remains (circuit t n) s) v

@@ -8,6 +8,7 @@ ghost use Rattle.circuit.specs.Reading.{fieldsAt};
 ghost use Rattle.circuit.specs.Circuit.{circuit};
 ghost use Rattle.circuit.specs.Checks.{Checked};
 ghost use Rattle.trim.specs.Order.{checkKept, checkRoom, badFact, checkFactsFrom, checkCertificate, checkTrim};
+use crate::ALWAYS;
 use circuit::number::u32_at;
 use circuit::number::wide;
 use circuit::operator::PowerTable;
@@ -53,7 +54,7 @@ fn bad_fact(t: &[u8], n: usize, certificate: &[u8], v: usize, powers: &PowerTabl
         (u32At (now (certificate .entry)) (v * 8 + 4)) ⌝ }
 {
     let byte = certificate[v * 8];
-    if byte == 1 {
+    if byte == ALWAYS {
         let w = width_at(t, v);
         return too_wide(u32_at(certificate, v * 8 + 4), w, power_in(powers, w));
     }

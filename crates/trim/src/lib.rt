@@ -15,7 +15,7 @@ ghost use Rattle.trim.specs.Trimmed as definition;
 ghost use Rattle.trim.specs.Ready.{Trimmable};
 ghost use Rattle.trim.specs.Promise.{room, lent, left, trimming, answerOf, TrimsPast, CallTrims};
 use crate::checks::check_trim;
-use crate::reach::mark_reached;
+use crate::reach::visit_reached;
 use crate::write::number_survivors;
 use crate::write::write_survivors;
 use circuit::checks::check_table;
@@ -31,6 +31,9 @@ mod checks;
 mod reach;
 mod write;
 
+// Byte 0 of the fact always.
+pub const ALWAYS: u8 = 1;
+
 // What is asked a record of the scratch.
 const ROOM: usize = 4;
 
@@ -40,7 +43,7 @@ pub enum Trimmed {
     Refused(Ground, usize),
 }
 
-// Writes the trimmed table and the old numbers, in a scratch whose marks are 0. How many records it has.
+// Writes the trimmed table and the old numbers, in a scratch whose flags are 0. How many records it has.
 fn trim_passed(
     t: &[u8],
     n: usize,
@@ -63,7 +66,7 @@ fn trim_passed(
         ++ drop r (now (numbers .entry)) ⌝ }
     ensures { λ _. ⌜ now (scratch .exit) ≡ replicate (n * room) 0 ++ drop (n * room) (now (scratch .entry)) ⌝ }
 {
-    mark_reached(t, n, certificate, kept, scratch);
+    visit_reached(t, n, certificate, kept, scratch);
     let count = number_survivors(t, n, scratch);
     write_survivors(t, n, certificate, scratch, trimmed, numbers);
     clear(scratch, 0, n * ROOM);

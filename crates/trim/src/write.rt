@@ -14,13 +14,14 @@ ghost use Rattle.circuit.specs.Circuit.{circuit};
 ghost use Rattle.circuit.specs.Checks.{Checked};
 ghost use Rattle.trim.specs.Ready.{remains, Numbered};
 ghost use Rattle.trim.specs.Cells.{fieldCells, Below, renumberFields, survivorFields};
+use crate::ALWAYS;
 use circuit::number::u32_at;
 use circuit::number::wide;
 use circuit::record::Fields;
 use circuit::record::fields_at;
 use circuit::table::kind_at;
 
-// Whether v remains: it is an input, or it is marked in the scratch.
+// Whether v remains: it is an input, or its flag in the scratch says that it is visited.
 fn remains_at(t: &[u8], s: &[u16], v: usize) -> bool
     requires { ⌜ (v * 16 + 16 ≤ length (now t)) × (v < length (now s)) ⌝ }
     ensures { λ r. ⌜ ((n : ℕ) → v < n → r ≡ remains (circuit (now (t .entry)) n) (now (s .entry)) v) ⌝ }
@@ -34,7 +35,7 @@ fn remains_at(t: &[u8], s: &[u16], v: usize) -> bool
     true
 }
 
-// Writes the new number of each variable behind the marks. How many remain.
+// Writes the new number of each variable behind the flags. How many remain.
 pub fn number_survivors(t: &[u8], n: usize, s: &mut [u16]) -> usize
     requires { ⌜ Checked (now t) n ⌝ }
     requires { ⌜ n + n ≤ length (now s) ⌝ }
@@ -95,7 +96,7 @@ fn constant_fields(width: u8, value: u32) -> Fields
     }
 }
 
-// Fields with A, B and C looked up behind the marks. One that is not used is 0, whose new number is 0 too, so that no
+// Fields with A, B and C looked up behind the flags. One that is not used is 0, whose new number is 0 too, so that no
 // branch depends on the kind.
 fn renumbered(f: Fields, n: usize, s: &[u16]) -> Fields
     requires { ⌜ Below n f ⌝ }
@@ -122,7 +123,7 @@ fn becomes_constant(kind: u8, byte: u8) -> bool
     if kind == 0 {
         return false;
     }
-    byte == 1
+    byte == ALWAYS
 }
 
 // The fields of variable v's record in the trimmed table.

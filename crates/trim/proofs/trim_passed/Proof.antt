@@ -1,4 +1,4 @@
--- What the kept variables reach is marked, the survivors are numbered and written, and the scratch is cleared.
+-- What the kept variables reach is visited, the survivors are numbered and written, and the scratch is cleared.
 -- Assumes nothing.
 use borrow.Author.Needs.{needs}
 use mathlib.Core.Path.{_≡_, sym, ap, _∙_}
@@ -13,12 +13,12 @@ use Rattle.fact.specs.Fact.{factAt}
 use Rattle.trim.specs.Trimmed as definition
 use Rattle.trim.specs.Promise.{room}
 use Rattle.trim.proofs.Numbering.{numbered}
-use Rattle.trim.proofs.Written.{numbers-outside, marks-stay, count-is, records-written, olds-written}
+use Rattle.trim.proofs.Written.{numbers-outside, visits-stay, count-is, records-written, olds-written}
 use Rattle.trim.proofs.trim_passed.Statement.{statement}
 use Rattle.trim.proofs.trim_passed.Tie as tie
 
-mark-reached-requires : tie.Need-mark-reached-requires
-mark-reached-requires c κs =
+visit-reached-requires : tie.Need-visit-reached-requires
+visit-reached-requires c κs =
     let a = c .before .before .before .before .before .before .before in (
       a .pre .0 .table,
       (
@@ -33,11 +33,11 @@ number-survivors-requires c κs = search needs
 write-survivors-requires : tie.Need-write-survivors-requires
 write-survivors-requires c κs =
     let num = c .before .before .before .before .before in
-    let mark = num .before .before .before .before in
-    let a = mark .before .before .before .before .before .before .before .before in (
+    let visit = num .before .before .before .before in
+    let a = visit .before .before .before .before .before .before .before .before in (
       a .pre .0 .table,
       (
-        numbered _ _ _ _ (omega (arith, a .pre .1 .0, mark .mark-reached .ensures .1 .long))
+        numbered _ _ _ _ (omega (arith, a .pre .1 .0, visit .visit-reached .ensures .1 .long))
             (num .number-survivors .ensures .1),
         (omega (arith, a .pre .0 .certificate-long), a .pre .0 .trimmed-lent, a .pre .0 .numbers-lent),
       ),
@@ -62,15 +62,15 @@ returns : tie.Need-returns
 returns c =
     let wrote = c .before .before .before .before .before .before .before .before in
     let num = wrote .before .before .before .before .before .before in
-    let mark = num .before .before .before .before in
-    let a = mark .before .before .before .before .before .before .before .before in
+    let visit = num .before .before .before .before in
+    let a = visit .before .before .before .before .before .before .before .before in
     let x = a .args in
     let called = definition.replaced (circuit (x .t .now) (x .n)) (factAt (x .certificate .now)) in
     let filled = num .number-survivors .ensures .1 in
-    let marks = mark .mark-reached .ensures .0 in
-    let after = marks-stay (x .t .now) (x .certificate .now) (x .kept .now) (x .n) filled marks in
+    let visits = visit .visit-reached .ensures .0 in
+    let after = visits-stay (x .t .now) (x .certificate .now) (x .kept .now) (x .n) filled visits in
     let count : num .number-survivors .result ≡ length (definition.survivors called (x .kept .now)) =
-    num .number-survivors .ensures .0 ∙ count-is (x .t .now) (x .certificate .now) (x .kept .now) (x .n) marks in (
+    num .number-survivors .ensures .0 ∙ count-is (x .t .now) (x .certificate .now) (x .kept .now) (x .n) visits in (
       count,
       (
         records-written (x .t .now) (x .certificate .now) (x .kept .now) (x .n) after (a .pre .0 .trimmed-lent)
@@ -82,7 +82,7 @@ returns c =
               (wrote .write-survivors .ensures .1)
               ∙ ap (λ (k : ℕ). definition.survivors called (x .kept .now) ++ drop k (x .numbers .now)) (sym count),
           part-cleared 0 (x .n + x .n) (x .n * room) (x .scratch .now) _ _
-              (numbers-outside (mark .mark-reached .ensures .1) filled) (omega arith) (a .pre .1 .0)
+              (numbers-outside (visit .visit-reached .ensures .1) filled) (omega arith) (a .pre .1 .0)
               (c .before .before .clear .ensures),
         ),
       ),
@@ -92,7 +92,7 @@ pub trim-passed-spec : {M : Type 1} → statement M
 trim-passed-spec =
     tie.close
     (tie.spec
-    mark-reached-requires
+    visit-reached-requires
     number-survivors-requires
     write-survivors-requires
     mul-clear

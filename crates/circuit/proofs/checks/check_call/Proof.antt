@@ -1,10 +1,20 @@
 -- Each check is tried where those before it pass.
 -- Assumes nothing.
 use mathlib.Core.Path.{sym, _∙_}
-use Rattle.circuit.proofs.Passing.{length-most, few-each, check-stops, check-goes-on}
+use Prim.Native.Nat.{ℕ, _*_, _/_, _^_, _≤_, _<_}
+use native.Mathlib.Nat.{mul-le-mul-left, mul-le-mul-right}
+use native.Mathlib.Omega.{arith}
+use Rattle.circuit.proofs.Passing.{length-most, check-stops, check-goes-on}
 use borrow.Author.Needs.{needs}
 use Rattle.circuit.proofs.checks.check_call.Statement.{statement}
 use Rattle.circuit.proofs.checks.check_call.Tie as tie
+
+few-each : (bytes each : ℕ) → bytes ≤ 65536 → each ≤ 256 → bytes / 16 * each < 2 ^ 64
+few-each bytes each h k =
+    omega (arith, mul-le-mul-right each (div-most bytes h), mul-le-mul-left 4096 k)
+  where
+    div-most : (b : ℕ) → b ≤ 65536 → b / 16 ≤ 4096
+    div-most b l = omega arith
 
 check-length-requires : tie.Need-check-length-requires
 check-length-requires c κs = search needs

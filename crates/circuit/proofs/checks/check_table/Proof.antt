@@ -1,72 +1,18 @@
--- Each check is tried where those before it pass.
+-- An output of which nothing is asked is as none.
 -- Assumes nothing.
-use mathlib.Core.Path.{sym, _∙_}
-use Rattle.circuit.proofs.Passing.{length-most, few-each, check-stops, check-goes-on}
-use borrow.Author.Needs.{needs}
+use mathlib.Core.Path.{_∙_}
+use native.Mathlib.Omega.{arith}
+use Rattle.circuit.proofs.Passing.{nothing-asked}
 use Rattle.circuit.proofs.checks.check_table.Statement.{statement}
 use Rattle.circuit.proofs.checks.check_table.Tie as tie
 
-check-length-requires : tie.Need-check-length-requires
-check-length-requires c κs = search needs
-
-enum-told : tie.Need-enum-told
-enum-told c = search needs
-
-enum-told-2 : tie.Need-enum-told-2
-enum-told-2 c = search needs
+check-call-requires : tie.Need-check-call-requires
+check-call-requires c κs = ((omega arith, c .before .pre .0), c .before .pre .1)
 
 returns : tie.Need-returns
 returns c =
-    c .enum-told2 .given .1 ∙ check-stops _ _ _ _ _ (c .before .before .check-length .ensures)
-    (c .enum-told2 .given .1)
-
-mul-check-scratch : tie.Need-mul-check-scratch
-mul-check-scratch c =
-    let b = c .before .before in
-    record {
-      fits =
-          few-each _ _ (length-most _ (sym (b .check-length .ensures) ∙ c .enum-told .given .1))
-          (b .before .before .pre .0);
-    }
-
-check-scratch-requires : tie.Need-check-scratch-requires
-check-scratch-requires c κs = search needs
-
-enum-told-3 : tie.Need-enum-told-3
-enum-told-3 c = search needs
-
-enum-told-4 : tie.Need-enum-told-4
-enum-told-4 c = search needs
-
-returns-2 : tie.Need-returns-2
-returns-2 c =
-    c .enum-told4 .given .1 ∙ check-stops _ _ _ _ _ (c .before .before .check-scratch .ensures)
-    (c .enum-told4 .given .1) ∙ sym
-    (check-goes-on _ _ _ (c .before .before .before .before .before .check-length .ensures)
-    (c .before .before .before .enum-told .given .1))
-
-check-records-requires : tie.Need-check-records-requires
-check-records-requires c κs = search needs
-
-returns-3 : tie.Need-returns-3
-returns-3 c =
-    c .check-records .ensures
-    ∙ sym (check-goes-on _ _ _ (c .before .before .before .check-scratch .ensures) (c .before .enum-told3 .given .1))
-    ∙ sym (check-goes-on _ _ _ (c .before .before .before .before .before .before .check-length .ensures)
-    (c .before .before .before .before .enum-told .given .1))
+    let a = c .before .before .args in
+    c .check-call .ensures ∙ nothing-asked (a .t .now) (record { lent = a .scratch; each = a .room })
 
 pub check-table-spec : {M : Type 1} → statement M
-check-table-spec =
-    tie.close
-    (tie.spec
-    check-length-requires
-    enum-told
-    enum-told-2
-    returns
-    mul-check-scratch
-    check-scratch-requires
-    enum-told-3
-    enum-told-4
-    returns-2
-    check-records-requires
-    returns-3)
+check-table-spec = tie.close (tie.spec check-call-requires returns)

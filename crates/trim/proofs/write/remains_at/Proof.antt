@@ -1,8 +1,8 @@
--- An input by its kind, else by its mark.
+-- An input by its kind, else by its flag.
 -- Assumes nothing.
 use mathlib.Core.Path.{sym, _∙_}
 use borrow.Author.Needs.{needs}
-use Rattle.trim.proofs.Numbering.{input-remains, marked-remains, unmarked-drops}
+use Rattle.trim.proofs.Numbering.{input-remains, visited-remains, unvisited-drops}
 use Rattle.trim.proofs.write.remains_at.Statement.{statement}
 use Rattle.trim.proofs.write.remains_at.Tie as tie
 
@@ -24,14 +24,14 @@ returns-2 : tie.Need-returns-2
 returns-2 c = λ n h.
     let kind = c .before .before .before in
     let x = kind .before .before .before .args in
-    unmarked-drops (x .t .now) n (x .v) h (x .s .now) (c .if2 .taken)
+    unvisited-drops (x .t .now) n (x .v) h (x .s .now) (c .if2 .taken)
     (λ e. c .before .before .if1 .left (kind .kind-at .ensures ∙ e))
 
 returns-3 : tie.Need-returns-3
 returns-3 c = λ n h.
     let kind = c .before .before .before in
     let x = kind .before .before .before .args in
-    marked-remains (x .t .now) n (x .v) h (x .s .now) (c .if2 .left)
+    visited-remains (x .t .now) n (x .v) h (x .s .now) (c .if2 .left)
     (λ e. c .before .before .if1 .left (kind .kind-at .ensures ∙ e))
 
 pub remains-at-spec : {M : Type 1} → statement M

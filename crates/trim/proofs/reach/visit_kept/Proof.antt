@@ -1,16 +1,16 @@
--- The loop's invariant: the first i kept variables are marked. The measure is those that are left.
+-- The loop's invariant: the first i kept variables are visited. The measure is those that are left.
 -- Assumes nothing.
 use borrow.Author.Needs.{needs}
 use Prim.Native.Nat.{_-_}
 use native.Mathlib.Omega.{arith}
 use lib.ListN.{length}
-use Rattle.trim.specs.Marks.{KeptMarked}
-use Rattle.trim.proofs.Marking.{none-kept, kept-below, kept-room, one-kept, all-kept}
-use Rattle.trim.proofs.reach.mark_kept.Statement.{statement}
-use Rattle.trim.proofs.reach.mark_kept.Tie as tie
+use Rattle.trim.specs.Visits.{KeptVisited}
+use Rattle.trim.proofs.Visiting.{none-kept, kept-below, kept-room, one-kept, all-kept}
+use Rattle.trim.proofs.reach.visit_kept.Statement.{statement}
+use Rattle.trim.proofs.reach.visit_kept.Tie as tie
 
 abbrev Inv-loop : tie.InvT-loop
-Inv-loop n kept s₀ stacked₀ i₀ s stacked i = KeptMarked n kept i s₀ s stacked
+Inv-loop n kept s₀ stacked₀ i₀ s stacked i = KeptVisited n kept i s₀ s stacked
 
 abbrev μ-loop : tie.MeasureT-loop
 μ-loop n kept s₀ stacked₀ i₀ s stacked i = length kept - i
@@ -27,8 +27,8 @@ shared-slice-read-wide c = omega (arith, c .before .before .loop-test .taken)
 wide-requires : tie.Need-wide-requires Inv-loop μ-loop
 wide-requires c κs = search needs
 
-mark-requires : tie.Need-mark-requires Inv-loop μ-loop
-mark-requires c κs =
+visit-requires : tie.Need-visit-requires Inv-loop μ-loop
+visit-requires c κs =
     let a = c .before .before .before .before .before .before .before in
     let l = c .before .before .before .before .loop in
     let more = c .before .before .before .loop-test .taken in (
@@ -51,7 +51,7 @@ loop-again c =
     let x = c .before .before .before in
     let a = x .before .before .before .before .before .before .before in
     one-kept (a .pre .1 .0) (x .before .before .before .before .loop .inv) (x .before .before .before .loop-test .taken)
-    (x .wide .ensures .0) (c .before .before .mark .ensures)
+    (x .wide .ensures .0) (c .before .before .visit .ensures)
 
 same-length : tie.Need-same-length Inv-loop μ-loop
 same-length c = c .before .loop .inv .outside .long
@@ -59,8 +59,8 @@ same-length c = c .before .loop .inv .outside .long
 returns : tie.Need-returns Inv-loop μ-loop
 returns c = all-kept (c .before .loop .inv) (c .loop-test .left)
 
-pub mark-kept-spec : {M : Type 1} → statement M
-mark-kept-spec =
+pub visit-kept-spec : {M : Type 1} → statement M
+visit-kept-spec =
     tie.close
     (tie.spec
     Inv-loop
@@ -69,7 +69,7 @@ mark-kept-spec =
     mul-wide
     shared-slice-read-wide
     wide-requires
-    mark-requires
+    visit-requires
     add-i
     loop-less
     loop-again

@@ -1,5 +1,5 @@
--- Marking what kept variables reach: what one mark does to the invariant, what follows when a variable is taken off the
--- stack and its uses are marked, and what is marked in the end.
+-- Visiting what kept variables reach: what one visit does to the invariant, what follows when a variable is taken off
+-- the stack and its uses are visited, and what is visited in the end.
 -- Assumes nothing.
 use mathlib.Core.Path.{_≡_, refl, sym, ap, _∙_, subst}
 use mathlib.Core.Logic.{_⊎_, inl, inr, ⊎-elim}
@@ -24,11 +24,12 @@ use Rattle.circuit.specs.Record.{uses}
 use Rattle.circuit.specs.Circuit.{Circuit, recordOf, graph}
 use Rattle.schedule.specs.Walk.{sign}
 use Rattle.schedule.proofs.Sums.{sum-same, visited-most, visited-more, visited-less}
-use Rattle.trim.specs.Marks.{Marked, countMarked, MarkedOne, Marking, ClosedSet, HasMarked, Spread, InsideOf, KeptMarked, MarksReached}
+use Rattle.trim.specs.Visits.{Visited, visitedCount, VisitedOne, Visiting, ClosedSet}
+use Rattle.trim.specs.Visits.{HasVisited, Spread, InsideOf, KeptVisited, VisitsReached}
 
--- ---- one mark
+-- ---- one visit
 
--- u, which is not marked, is marked and put on the stack
+-- u, which is not visited, is visited and put on the stack
 module _ (n u w : ℕ) (s : List ℕ) (below : u < n) (lent : n + n ≤ length s) (room : w < n) where
   abbrev s′ : List ℕ
   s′ = set (set s u 1) (n + w) u
@@ -49,22 +50,22 @@ module _ (n u w : ℕ) (s : List ℕ) (below : u < n) (lent : n + n ≤ length s
       getD-set-other (set s u 1) (n + w) (n + j) u 0 (λ e. ne (omega arith))
       ∙ getD-set-other s u (n + j) 1 0 (λ e. omega arith)
 
-  front-grows : (v : ℕ) → v < n → Marked s v → Marked s′ v
+  front-grows : (v : ℕ) → v < n → Visited s v → Visited s′ v
   front-grows v h m =
       by-same v u
       (λ e. omega (arith, ap (λ (x : ℕ). getD s′ x 0) e, front-is))
       (λ ne. omega (arith, front-other v h ne))
 
-  front-new : (v : ℕ) → v < n → Marked s′ v → (v ≡ u) ⊎ Marked s v
+  front-new : (v : ℕ) → v < n → Visited s′ v → (v ≡ u) ⊎ Visited s v
   front-new v h m = by-same v u (λ e. inl e) (λ ne. inr (omega (arith, front-other v h ne)))
 
-  count-rises : getD s u 0 ≡ 0 → countMarked s′ n ≡ countMarked s n + 1
-  count-rises unmarked =
+  count-rises : getD s u 0 ≡ 0 → visitedCount s′ n ≡ visitedCount s n + 1
+  count-rises unvisited =
       sum-same (λ v. sign (put (λ x. getD s x 0) u 1 v)) (λ v. sign (getD s′ v 0)) n
       (λ v h. ap sign (by-same v u
       (λ e. ap (λ (x : ℕ). getD s′ x 0) e ∙ front-is ∙ sym (ap (put (λ x. getD s x 0) u 1) e ∙ put-same _ u 1))
       (λ ne. front-other v h ne ∙ sym (put-other (λ x. getD s x 0) u 1 v ne))))
-      ∙ visited-more (λ v. getD s v 0) n u below unmarked
+      ∙ visited-more (λ v. getD s v 0) n u below unvisited
 
   s′-kept : Kept (n + n) s s′
   s′-kept =
@@ -75,11 +76,11 @@ module _ (n u w : ℕ) (s : List ℕ) (below : u < n) (lent : n + n ≤ length s
       }
 
   -- the invariant goes on
-  pushed : (c : Circuit) (x : ℕ) → InsideOf c n → getD s u 0 ≡ 0 → Marking c n s w x → Marking c n s′ (w + 1) x
-  pushed c x inside unmarked p =
+  pushed : (c : Circuit) (x : ℕ) → InsideOf c n → getD s u 0 ≡ 0 → Visiting c n s w x → Visiting c n s′ (w + 1) x
+  pushed c x inside unvisited p =
       record {
         lent = omega (arith, s′-kept .long);
-        few = omega (arith, count-rises unmarked, p .few);
+        few = omega (arith, count-rises unvisited, p .few);
         stacked = λ j h. by-same j w
             (λ e.
             let is : getD s′ (n + j) 0 ≡ u = ap (λ (i : ℕ). getD s′ (n + i) 0) e ∙ stack-is in
@@ -95,21 +96,21 @@ module _ (n u w : ℕ) (s : List ℕ) (below : u < n) (lent : n + n ≤ length s
             (p .closed v h (omega (arith, front-other v h ne)) other));
       }
 
--- what one mark does: u is marked, what was marked is, nothing else is, and as many more wait as are marked
+-- what one visit does: u is visited, what was visited is, nothing else is, and as many more wait as are visited
 pub record OneMore (n u : ℕ) (entry : List ℕ) (waiting : ℕ) (exit : List ℕ) (r : ℕ) : Type 0 where
   pub kept : Kept (n + n) entry exit
-  pub here : Marked exit u
-  pub grows : (v : ℕ) → v < n → Marked entry v → Marked exit v
-  pub alone : (v : ℕ) → v < n → Marked exit v → (v ≡ u) ⊎ Marked entry v
-  pub balance : countMarked exit n + waiting ≡ countMarked entry n + r
+  pub here : Visited exit u
+  pub grows : (v : ℕ) → v < n → Visited entry v → Visited exit v
+  pub alone : (v : ℕ) → v < n → Visited exit v → (v ≡ u) ⊎ Visited entry v
+  pub balance : visitedCount exit n + waiting ≡ visitedCount entry n + r
 
-module _ {c : Circuit} {n u w x : ℕ} {s : List ℕ} (inside : InsideOf c n) (p : Marking c n s w x) (below : u < n) where
-  -- an unmarked variable leaves room on the stack
+module _ {c : Circuit} {n u w x : ℕ} {s : List ℕ} (inside : InsideOf c n) (p : Visiting c n s w x) (below : u < n) where
+  -- an unvisited variable leaves room on the stack
   pub stack-room : getD s u 0 ≡ 0 → w < n
-  stack-room unmarked = omega (arith, p .few, visited-less (λ v. getD s v 0) n u below unmarked)
+  stack-room unvisited = omega (arith, p .few, visited-less (λ v. getD s v 0) n u below unvisited)
 
-  pub mark-more : {exit : List ℕ} {r : ℕ} → MarkedOne n u s w exit r → OneMore n u s w exit r
-  mark-more (inl (m, e, e′)) =
+  pub visit-more : {exit : List ℕ} {r : ℕ} → VisitedOne n u s w exit r → OneMore n u s w exit r
+  visit-more (inl (m, e, e′)) =
       rw (e, e′) (record {
         kept = kept-none (n + n) s;
         here = m;
@@ -117,7 +118,7 @@ module _ {c : Circuit} {n u w x : ℕ} {s : List ℕ} (inside : InsideOf c n) (p
         alone = λ v h k. inr k;
         balance = refl;
       })
-  mark-more (inr (z, e, e′)) =
+  visit-more (inr (z, e, e′)) =
       let room = stack-room z in
       rw (e, e′) (record {
         kept = s′-kept n u w s below (p .lent) room;
@@ -127,12 +128,12 @@ module _ {c : Circuit} {n u w x : ℕ} {s : List ℕ} (inside : InsideOf c n) (p
         balance = omega (arith, count-rises n u w s below (p .lent) room z);
       })
 
-  pub mark-marking : {exit : List ℕ} {r : ℕ} → MarkedOne n u s w exit r → Marking c n exit r x
-  mark-marking (inl (m, e, e′)) = rw (e, e′) p
-  mark-marking (inr (z, e, e′)) =
+  pub visit-visiting : {exit : List ℕ} {r : ℕ} → VisitedOne n u s w exit r → Visiting c n exit r x
+  visit-visiting (inl (m, e, e′)) = rw (e, e′) p
+  visit-visiting (inr (z, e, e′)) =
       rw (e, e′) (pushed n u w s below (p .lent) (stack-room z) c x inside z p)
 
--- ---- the marks that grow along uses
+-- ---- the visits that grow along uses
 
 pub spread-none : (c : Circuit) (n : ℕ) (s : List ℕ) → Spread c n s s
 spread-none c n s = record { kept = kept-none (n + n) s; grows = λ v h m. m; within = λ set closed has. has }
@@ -145,8 +146,8 @@ spread-then p q =
       within = λ set closed has. q .within set closed (p .within set closed has);
     }
 
--- a use of a marked variable is marked
-use-spread : {c : Circuit} {n u w r v : ℕ} {s exit : List ℕ} → OneMore n u s w exit r → v < n → Marked s v
+-- a use of a visited variable is visited
+use-spread : {c : Circuit} {n u w r v : ℕ} {s exit : List ℕ} → OneMore n u s w exit r → v < n → Visited s v
     → Uses (graph c) v u → Spread c n s exit
 use-spread {v = v} p below m used =
     record {
@@ -160,21 +161,22 @@ use-spread {v = v} p below m used =
 
 -- ---- the uses of a variable that was taken off the stack
 
--- the first k of them are marked; as many more wait as are marked
-pub record UsesMarked (c : Circuit) (n v : ℕ) (entry : List ℕ) (waiting : ℕ) (s : List ℕ) (stacked k : ℕ) : Type 0 where
-  pub marking : Marking c n s stacked v
+-- the first k of them are visited; as many more wait as are visited
+pub record UsesVisited (c : Circuit) (n v : ℕ) (entry : List ℕ) (waiting : ℕ) (s : List ℕ)
+    (stacked k : ℕ) : Type 0 where
+  pub visiting : Visiting c n s stacked v
   pub spread : Spread c n entry s
-  pub done : (j : ℕ) → j < k → Marked s (getD (uses (recordOf c v)) j 0)
-  pub balance : countMarked s n + waiting ≡ countMarked entry n + stacked
+  pub done : (j : ℕ) → j < k → Visited s (getD (uses (recordOf c v)) j 0)
+  pub balance : visitedCount s n + waiting ≡ visitedCount entry n + stacked
 
-pub no-use-marked : {c : Circuit} {n v : ℕ} {s : List ℕ} {waiting : ℕ} → Marking c n s waiting v
-    → UsesMarked c n v s waiting s waiting 0
-no-use-marked {c} {n} {s = s} p =
-    record { marking = p; spread = spread-none c n s; done = λ j h. absurd (not-suc-le-zero h); balance = refl }
+pub no-use-visited : {c : Circuit} {n v : ℕ} {s : List ℕ} {waiting : ℕ} → Visiting c n s waiting v
+    → UsesVisited c n v s waiting s waiting 0
+no-use-visited {c} {n} {s = s} p =
+    record { visiting = p; spread = spread-none c n s; done = λ j h. absurd (not-suc-le-zero h); balance = refl }
 
 module _ {c : Circuit} {n v : ℕ} {entry : List ℕ} {waiting : ℕ} (inside : InsideOf c n) (below : v < n)
-    (marked : Marked entry v) where
-  module _ {s : List ℕ} {stacked k u : ℕ} (p : UsesMarked c n v entry waiting s stacked k)
+    (visited : Visited entry v) where
+  module _ {s : List ℕ} {stacked k u : ℕ} (p : UsesVisited c n v entry waiting s stacked k)
       (more : k < length (uses (recordOf c v))) (is : u ≡ getD (uses (recordOf c v)) k 0) where
     used : Uses (graph c) v u
     used = rw is (member-getD (uses (recordOf c v)) k more)
@@ -183,49 +185,49 @@ module _ {c : Circuit} {n v : ℕ} {entry : List ℕ} {waiting : ℕ} (inside : 
     use-below = inside v u below used
 
     pub use-room : getD s u 0 ≡ 0 → stacked < n
-    use-room = stack-room inside (p .marking) use-below
+    use-room = stack-room inside (p .visiting) use-below
 
-    pub one-use-marked : {exit : List ℕ} {r : ℕ} → MarkedOne n u s stacked exit r
-        → UsesMarked c n v entry waiting exit r (k + 1)
-    one-use-marked {exit} {r} m =
-        let more-marked : OneMore n u s stacked exit r = mark-more inside (p .marking) use-below m in
+    pub one-use-visited : {exit : List ℕ} {r : ℕ} → VisitedOne n u s stacked exit r
+        → UsesVisited c n v entry waiting exit r (k + 1)
+    one-use-visited {exit} {r} m =
+        let more-visited : OneMore n u s stacked exit r = visit-more inside (p .visiting) use-below m in
         record {
-          marking = mark-marking inside (p .marking) use-below m;
-          spread = spread-then (p .spread) (use-spread more-marked below (p .spread .grows v below marked) used);
+          visiting = visit-visiting inside (p .visiting) use-below m;
+          spread = spread-then (p .spread) (use-spread more-visited below (p .spread .grows v below visited) used);
           done = λ j h. by-same j k
-              (λ e. rw (e, ← is) (more-marked .here))
-              (λ ne. more-marked .grows (getD (uses (recordOf c v)) j 0)
+              (λ e. rw (e, ← is) (more-visited .here))
+              (λ ne. more-visited .grows (getD (uses (recordOf c v)) j 0)
               (inside v _ below (member-getD (uses (recordOf c v)) j (omega arith))) (p .done j (omega arith)));
-          balance = omega (arith, p .balance, more-marked .balance);
+          balance = omega (arith, p .balance, more-visited .balance);
         }
 
   -- all of them
-  pub all-uses-marked : {s : List ℕ} {stacked k : ℕ} → UsesMarked c n v entry waiting s stacked k
-      → length (uses (recordOf c v)) ≤ k → Marking c n s stacked n
-  all-uses-marked {s} p all =
+  pub all-uses-visited : {s : List ℕ} {stacked k : ℕ} → UsesVisited c n v entry waiting s stacked k
+      → length (uses (recordOf c v)) ≤ k → Visiting c n s stacked n
+  all-uses-visited {s} p all =
       record {
-        lent = p .marking .lent;
-        few = p .marking .few;
-        stacked = p .marking .stacked;
+        lent = p .visiting .lent;
+        few = p .visiting .few;
+        stacked = p .visiting .stacked;
         closed = λ y h m _. by-same y v
             (λ e. inr (λ u used.
             let (j, low, is) = member-place u (uses (recordOf c v)) (rw e at used) in
             rw (← is) (p .done j (omega arith))))
-            (λ ne. p .marking .closed y h m ne);
+            (λ ne. p .visiting .closed y h m ne);
       }
 
 -- ---- all that wait
 
 -- v, taken off the stack, is left out
-module _ {c : Circuit} {n w v : ℕ} {s : List ℕ} (p : Marking c n s w n) (some : 0 < w)
+module _ {c : Circuit} {n w v : ℕ} {s : List ℕ} (p : Visiting c n s w n) (some : 0 < w)
     (is : v ≡ getD s (n + (w - 1)) 0) where
   pub taken-below : v < n
   taken-below = rw is (p .stacked (w - 1) (omega arith) .0)
 
-  pub taken-marked : Marked s v
-  taken-marked = rw is (p .stacked (w - 1) (omega arith) .1)
+  pub taken-visited : Visited s v
+  taken-visited = rw is (p .stacked (w - 1) (omega arith) .1)
 
-  pub taken-off : Marking c n s (w - 1) v
+  pub taken-off : Visiting c n s (w - 1) v
   taken-off =
       record {
         lent = p .lent;
@@ -239,30 +241,30 @@ module _ {c : Circuit} {n w v : ℕ} {s : List ℕ} (p : Marking c n s w n) (som
             (p .closed u h m (λ e. omega arith));
       }
 
--- what is marked and waits no more was taken off, each variable once
-pub taken-few : {c : Circuit} {n w x : ℕ} {s : List ℕ} → Marking c n s w x
-    → (w ≤ countMarked s n) × (countMarked s n ≤ n)
+-- what is visited and waits no more was taken off, each variable once
+pub taken-few : {c : Circuit} {n w x : ℕ} {s : List ℕ} → Visiting c n s w x
+    → (w ≤ visitedCount s n) × (visitedCount s n ≤ n)
 taken-few {n = n} {s = s} p = (p .few, visited-most (λ v. getD s v 0) n)
 
 -- ---- the kept variables
 
 pub none-kept : {n : ℕ} {kept s : List ℕ} → n + n ≤ length s → ((v : ℕ) → v < n → getD s v 0 ≡ 0)
-    → KeptMarked n kept 0 s s 0
+    → KeptVisited n kept 0 s s 0
 none-kept {n} {kept} {s} lent zeros =
     record {
       outside = kept-none (n + n) s;
-      marking = λ c inside. record {
+      visiting = λ c inside. record {
         lent = lent;
         few = omega arith;
         stacked = λ j h. absurd (not-suc-le-zero h);
-        closed = λ v h m other. absurd (not-marked v h m);
+        closed = λ v h m other. absurd (not-visited v h m);
       };
-      marked = λ j h. absurd (not-suc-le-zero h);
-      alone = λ v h m. absurd (not-marked v h m);
+      visited = λ j h. absurd (not-suc-le-zero h);
+      alone = λ v h m. absurd (not-visited v h m);
     }
   where
-    not-marked : (v : ℕ) → v < n → Marked s v → ⊥
-    not-marked v h m = omega (arith, zeros v h)
+    not-visited : (v : ℕ) → v < n → Visited s v → ⊥
+    not-visited v h m = omega (arith, zeros v h)
 
 -- a circuit that uses nothing
 nothing-used : (n : ℕ) → InsideOf [] n
@@ -270,62 +272,62 @@ unfolding member
 nothing-used n v u h used = absurd used
 
 module _ {n : ℕ} {kept : List ℕ} {i : ℕ} {entry s : List ℕ} {stacked u : ℕ}
-    (all-below : (j : ℕ) → j < length kept → getD kept j 0 < n) (p : KeptMarked n kept i entry s stacked)
+    (all-below : (j : ℕ) → j < length kept → getD kept j 0 < n) (p : KeptVisited n kept i entry s stacked)
     (more : i < length kept) (is : u ≡ getD kept i 0) where
   pub kept-below : u < n
   kept-below = rw is (all-below i more)
 
   pub kept-room : getD s u 0 ≡ 0 → stacked < n
-  kept-room = stack-room (nothing-used n) (p .marking [] (nothing-used n)) kept-below
+  kept-room = stack-room (nothing-used n) (p .visiting [] (nothing-used n)) kept-below
 
-  pub one-kept : {exit : List ℕ} {r : ℕ} → MarkedOne n u s stacked exit r → KeptMarked n kept (i + 1) entry exit r
+  pub one-kept : {exit : List ℕ} {r : ℕ} → VisitedOne n u s stacked exit r → KeptVisited n kept (i + 1) entry exit r
   one-kept {exit} {r} m =
-      let more-marked : OneMore n u s stacked exit r =
-      mark-more (nothing-used n) (p .marking [] (nothing-used n)) kept-below m in
+      let more-visited : OneMore n u s stacked exit r =
+      visit-more (nothing-used n) (p .visiting [] (nothing-used n)) kept-below m in
       record {
-        outside = kept-trans (p .outside) (more-marked .kept);
-        marking = λ c inside. mark-marking inside (p .marking c inside) kept-below m;
-        marked = λ j h. by-same j i
-            (λ e. rw (e, ← is) (more-marked .here))
-            (λ ne. more-marked .grows (getD kept j 0) (all-below j (omega arith)) (p .marked j (omega arith)));
+        outside = kept-trans (p .outside) (more-visited .kept);
+        visiting = λ c inside. visit-visiting inside (p .visiting c inside) kept-below m;
+        visited = λ j h. by-same j i
+            (λ e. rw (e, ← is) (more-visited .here))
+            (λ ne. more-visited .grows (getD kept j 0) (all-below j (omega arith)) (p .visited j (omega arith)));
         alone = λ v h k. ⊎-elim
             (λ e. subst (λ (x : ℕ). T (member x kept)) (sym (e ∙ is)) (member-getD kept i more))
             (λ before. p .alone v h before)
-            (more-marked .alone v h k);
+            (more-visited .alone v h k);
       }
 
-pub all-kept : {n : ℕ} {kept : List ℕ} {i : ℕ} {entry s : List ℕ} {stacked : ℕ} → KeptMarked n kept i entry s stacked
-    → length kept ≤ i → KeptMarked n kept (length kept) entry s stacked
+pub all-kept : {n : ℕ} {kept : List ℕ} {i : ℕ} {entry s : List ℕ} {stacked : ℕ} → KeptVisited n kept i entry s stacked
+    → length kept ≤ i → KeptVisited n kept (length kept) entry s stacked
 all-kept p all =
     record {
       outside = p .outside;
-      marking = p .marking;
-      marked = λ j h. p .marked j (omega arith);
+      visiting = p .visiting;
+      visited = λ j h. p .visited j (omega arith);
       alone = p .alone;
     }
 
 -- ---- in the end
 
--- what is marked is what the kept variables reach
-pub marks-reached : {c : Circuit} {n : ℕ} {kept entry s exit : List ℕ} {waiting : ℕ} → length c ≡ n → InsideOf c n
-    → KeptMarked n kept (length kept) entry s waiting → Spread c n s exit → Marking c n exit 0 n
-    → MarksReached c kept n exit
-marks-reached {c} {n} {kept} {s = s} {exit} size inside p q m =
+-- what is visited is what the kept variables reach
+pub visits-reached : {c : Circuit} {n : ℕ} {kept entry s exit : List ℕ} {waiting : ℕ} → length c ≡ n → InsideOf c n
+    → KeptVisited n kept (length kept) entry s waiting → Spread c n s exit → Visiting c n exit 0 n
+    → VisitsReached c kept n exit
+visits-reached {c} {n} {kept} {s = s} {exit} size inside p q m =
     record {
       sound = λ v h k. q .within (isIn (reachedSet (graph c) kept)) closed has v h k;
-      whole = λ v h k. reached-least (graph c) kept (λ u. Marked exit u) marked-closed v k;
+      whole = λ v h k. reached-least (graph c) kept (λ u. Visited exit u) visited-closed v k;
     }
   where
-    marked-closed : ClosedUnderUses (graph c) kept (λ u. Marked exit u)
-    marked-closed =
+    visited-closed : ClosedUnderUses (graph c) kept (λ u. Visited exit u)
+    visited-closed =
         record {
           has = λ u l e.
               let (j, below, is) = member-place u kept e in
-              q .grows u (omega arith) (rw is at (p .marked j below));
-          closed = λ x u l marked below used. ⊎-elim
+              q .grows u (omega arith) (rw is at (p .visited j below));
+          closed = λ x u l visited below used. ⊎-elim
               (λ (j, none, is). absurd (not-suc-le-zero none))
               (λ all. all u used)
-              (m .closed x (omega arith) marked (λ e. omega arith));
+              (m .closed x (omega arith) visited (λ e. omega arith));
         }
 
     reached : ClosedUnderUses (graph c) kept (λ u. T (isIn (reachedSet (graph c) kept) u))
@@ -334,5 +336,5 @@ marks-reached {c} {n} {kept} {s = s} {exit} size inside p q m =
     closed : ClosedSet c n (isIn (reachedSet (graph c) kept))
     closed x u l t used = reached .closed x u (omega arith) t (omega (arith, inside x u l used)) used
 
-    has : HasMarked s n (isIn (reachedSet (graph c) kept))
+    has : HasVisited s n (isIn (reachedSet (graph c) kept))
     has u l k = reached .has u (omega arith) (p .alone u l k)

@@ -1,12 +1,12 @@
--- A variable that is marked stays as it is; any other is marked, and put on the stack, where there is room.
+-- A variable that is visited stays as it is; any other is visited, and put on the stack, where there is room.
 -- Assumes nothing.
 use borrow.Author.Needs.{needs}
 use mathlib.Core.Path.{refl}
 use mathlib.Core.Logic.{inl, inr}
 use native.Mathlib.Omega.{arith}
 use lib.ListN.{length-set}
-use Rattle.trim.proofs.reach.mark.Statement.{statement}
-use Rattle.trim.proofs.reach.mark.Tie as tie
+use Rattle.trim.proofs.reach.visit.Statement.{statement}
+use Rattle.trim.proofs.reach.visit.Tie as tie
 
 mul-if1 : tie.Need-mul-if1
 mul-if1 c = search needs
@@ -44,8 +44,8 @@ same-length c = search needs
 returns-2 : tie.Need-returns-2
 returns-2 c = inr (c .if1 .left, refl, refl)
 
-pub mark-spec : {M : Type 1} → statement M
-mark-spec =
+pub visit-spec : {M : Type 1} → statement M
+visit-spec =
     tie.close
     (tie.spec
     mul-if1

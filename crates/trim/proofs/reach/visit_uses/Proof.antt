@@ -1,4 +1,4 @@
--- The loop's invariant: the first k uses are marked. The measure is the uses left.
+-- The loop's invariant: the first k uses are visited. The measure is the uses left.
 -- Assumes nothing.
 use borrow.Author.Needs.{needs}
 use mathlib.Core.Path.{_≡_, _∙_}
@@ -11,13 +11,14 @@ use Rattle.circuit.specs.Circuit.{circuit, recordOf}
 use Rattle.fact.specs.Fact.{factAt}
 use Rattle.trim.specs.Trimmed.{replaced}
 use Rattle.trim.proofs.Replaced.{called-use, called-inside}
-use Rattle.trim.proofs.Marking.{UsesMarked, no-use-marked, use-below, use-room, one-use-marked, all-uses-marked}
-use Rattle.trim.proofs.reach.mark_uses.Statement.{statement}
-use Rattle.trim.proofs.reach.mark_uses.Tie as tie
+use Rattle.trim.proofs.Visiting.{UsesVisited, no-use-visited, use-below, use-room}
+use Rattle.trim.proofs.Visiting.{one-use-visited, all-uses-visited}
+use Rattle.trim.proofs.reach.visit_uses.Statement.{statement}
+use Rattle.trim.proofs.reach.visit_uses.Tie as tie
 
 abbrev Inv-loop : tie.InvT-loop
 Inv-loop t n certificate s₀ waiting v count stacked₀ k₀ s stacked k =
-    UsesMarked (replaced (circuit t n) (factAt certificate)) n v s₀ waiting s stacked k
+    UsesVisited (replaced (circuit t n) (factAt certificate)) n v s₀ waiting s stacked k
 
 abbrev μ-loop : tie.MeasureT-loop
 μ-loop t n certificate s₀ waiting v count stacked₀ k₀ s stacked k = count - k
@@ -26,7 +27,7 @@ called-uses-requires : tie.Need-called-uses-requires Inv-loop μ-loop
 called-uses-requires c κs = let a = c .before .before .before in (a .pre .0, (a .pre .1 .0 .0, a .pre .1 .0 .1))
 
 loop-holds : tie.Need-loop-holds Inv-loop μ-loop
-loop-holds c = no-use-marked (c .before .before .before .before .pre .1 .1)
+loop-holds c = no-use-visited (c .before .before .before .before .pre .1 .1)
 
 use-at-requires : tie.Need-use-at-requires Inv-loop μ-loop
 use-at-requires c κs =
@@ -40,13 +41,13 @@ wide-requires : tie.Need-wide-requires Inv-loop μ-loop
 wide-requires c κs = search needs
 
 -- the uses of the variable that was taken off the stack
-abbrev usesOf : tie.After-mark-arg Inv-loop μ-loop → List ℕ
+abbrev usesOf : tie.After-visit-arg Inv-loop μ-loop → List ℕ
 usesOf c =
     let x = c .before .before .before .before .before .before .before .before .before .args in
     uses (recordOf (replaced (circuit (x .t .now) (x .n)) (factAt (x .certificate .now))) (x .v))
 
 -- one more is left
-more : (c : tie.After-mark-arg Inv-loop μ-loop) → c .before .before .before .before .loop .k < length (usesOf c)
+more : (c : tie.After-visit-arg Inv-loop μ-loop) → c .before .before .before .before .loop .k < length (usesOf c)
 more c =
     omega (
       arith,
@@ -55,7 +56,7 @@ more c =
     )
 
 -- and it is the one that is read
-use-is : (c : tie.After-mark-arg Inv-loop μ-loop)
+use-is : (c : tie.After-visit-arg Inv-loop μ-loop)
     → c .before .wide .result ≡ getD (usesOf c) (c .before .before .before .before .loop .k) 0
 use-is c =
     let a = c .before .before .before .before .before .before .before .before .before in
@@ -64,13 +65,13 @@ use-is c =
     ∙ called-use (a .args .t .now) (a .args .certificate .now) (a .args .n) (a .args .v) (a .pre .1 .0 .1)
     (c .before .before .before .before .loop .k) (more c) .1
 
-mark-requires : tie.Need-mark-requires Inv-loop μ-loop
-mark-requires c κs =
+visit-requires : tie.Need-visit-requires Inv-loop μ-loop
+visit-requires c κs =
     let a = c .before .before .before .before .before .before .before .before .before in
     let l = c .before .before .before .before .loop in
     let inside = called-inside (a .args .certificate .now) (a .pre .0) in (
       (
-        l .inv .marking .lent,
+        l .inv .visiting .lent,
         a .pre .0 .small,
         use-below inside (a .pre .1 .0 .1) (a .pre .1 .0 .2) (l .inv) (more c) (use-is c),
       ),
@@ -87,8 +88,8 @@ loop-again : tie.Need-loop-again Inv-loop μ-loop
 loop-again c =
     let x = c .before .before .before in
     let a = x .before .before .before .before .before .before .before .before .before in
-    one-use-marked (called-inside (a .args .certificate .now) (a .pre .0)) (a .pre .1 .0 .1) (a .pre .1 .0 .2)
-    (x .before .before .before .before .loop .inv) (more x) (use-is x) (c .before .before .mark .ensures)
+    one-use-visited (called-inside (a .args .certificate .now) (a .pre .0)) (a .pre .1 .0 .1) (a .pre .1 .0 .2)
+    (x .before .before .before .before .loop .inv) (more x) (use-is x) (c .before .before .visit .ensures)
 
 same-length : tie.Need-same-length Inv-loop μ-loop
 same-length c = c .before .loop .inv .spread .kept .long
@@ -97,13 +98,13 @@ returns : tie.Need-returns Inv-loop μ-loop
 returns c =
     let a = c .before .before .before .before .before .before in
     let l = c .before .loop in (
-      all-uses-marked (called-inside (a .args .certificate .now) (a .pre .0)) (a .pre .1 .0 .1) (a .pre .1 .0 .2)
+      all-uses-visited (called-inside (a .args .certificate .now) (a .pre .0)) (a .pre .1 .0 .1) (a .pre .1 .0 .2)
           (l .inv) (omega (arith, c .loop-test .left, c .before .before .called-uses .ensures)),
       (l .inv .spread, l .inv .balance),
     )
 
-pub mark-uses-spec : {M : Type 1} → statement M
-mark-uses-spec =
+pub visit-uses-spec : {M : Type 1} → statement M
+visit-uses-spec =
     tie.close
     (tie.spec
     Inv-loop
@@ -112,7 +113,7 @@ mark-uses-spec =
     loop-holds
     use-at-requires
     wide-requires
-    mark-requires
+    visit-requires
     add-k
     loop-less
     loop-again
