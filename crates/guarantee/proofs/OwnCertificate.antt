@@ -22,7 +22,7 @@ use Rattle.fact.specs.declared.Fact.the-variants.{Always, Open, Marked}
 use Rattle.fact.specs.Fact.{factByte, factBytes, factAt}
 use Rattle.fact.specs.Rule.{rule}
 use Rattle.fact.specs.Certificate.{initialStore, certificate}
-use Rattle.call.specs.Call.{Left, accepted, lent, left, outputOf, checked}
+use Rattle.call.specs.Call.{Left, lent, left, outputOf, checked}
 use Rattle.call.proofs.Parts.{table-checked}
 use Rattle.certificate.specs.declared.Certified.the-variants as certified
 use Rattle.certificate.specs.Promise.{certifying, Certifies}
@@ -35,6 +35,7 @@ use Rattle.trim.proofs.Passing.{trim-passes}
 use Rattle.trim.proofs.Validity.{circuit-valid}
 use Rattle.trim.proofs.Own.{certificate-fits}
 use Rattle.trim.proofs.Bytes.{parts-length}
+use Rattle.trim.proofs.Promise.{answer-told}
 use Rattle.guarantee.proofs.Passing.{call-accepted}
 use Rattle.guarantee.proofs.Trimming.{facts-own}
 use Rattle.guarantee.proofs.TrimmedCertificate.{fact-written}
@@ -102,8 +103,4 @@ module _ {t cells scratch cells′ scratch′ : List ℕ} {rounds : ℕ}
         (trim-passes t own kept (length first) (length second) below long many own-length
         (λ v h. let (least, most) = byte-range (certificate c v) in
         (rw (own-byte v h) least, rw (own-byte v h) most, own-fits v h))) q in
-        (k, accepted-told r is)
-      where
-        accepted-told : (r : Trimmed) {k : ℕ} → trim-call.answerOf r ≡ accepted k → r ≡ trim.Accepted k
-        accepted-told (trim.Accepted j) e = ap trim.Accepted (cc)
-        accepted-told (trim.Refused g place) e = let z : _≡_ {A = ℕ} 0 1 = cc in absurd (omega arith)
+        (k, answer-told r (trim.Accepted k) is)

@@ -1,7 +1,7 @@
 -- A call that meets no ground is accepted: a bench call and a certifying call on a table of which none of grounds 1, 2
 -- and 5 to 11 holds, where as much is lent as is asked.
 -- Assumes nothing.
-use mathlib.Core.Path.{_≡_, refl, ap}
+use mathlib.Core.Path.{_≡_, refl}
 use mathlib.Core.Logic.{inl, inr}
 use mathlib.Core.List.{List, [], _∷_}
 use Prim.Native.Nat.{ℕ, _*_, _/_, _≤_}
@@ -18,6 +18,7 @@ use Rattle.certificate.specs.declared.Certified.{Certified}
 use Rattle.certificate.specs.declared.Certified.the-variants as certified
 use Rattle.certificate.specs.Promise as certified-call
 use Rattle.certificate.specs.Promise.{certifying, Certifies}
+use Rattle.certificate.proofs.Promise.{answer-told}
 use Rattle.machine.specs.declared.Benched.{Benched}
 use Rattle.machine.specs.declared.Benched.the-variants as benched
 use Rattle.machine.specs.Promise as benched-call
@@ -68,8 +69,4 @@ module _ (t output scratch : List ℕ) (lengths : checkLength (length t) ≡ Pas
   certify-accepted e r long p =
       let (k, is) = call-accepted certifying (lent t output scratch) e (certified-call.answerOf r)
       (one-checked certifying 8 t output scratch refl refl lengths records long room) none refl p in
-      (k, accepted-told r is)
-    where
-      accepted-told : (r : Certified) {k : ℕ} → certified-call.answerOf r ≡ accepted k → r ≡ certified.Accepted k
-      accepted-told (certified.Accepted j) e = ap certified.Accepted (cc)
-      accepted-told (certified.Refused g place) e = let z : _≡_ {A = ℕ} 0 1 = cc in absurd (omega arith)
+      (k, answer-told r (certified.Accepted k) is)
