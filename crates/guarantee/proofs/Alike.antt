@@ -25,7 +25,7 @@ use Rattle.circuit.proofs.Stimuli.{poke-passed, stimulus-passed}
 use Rattle.fact.specs.TwoRuns.{isSecret, AlikeLists}
 use Rattle.guarantee.specs.TwoRuns.{SecretInput, BothTick, BothPoke, AlikeStimuli}
 
--- what holds of no stimuli, and of two lists with stimulus i of each put in front where it held of them, holds of all
+-- a relation of two lists that holds of empty ones, and stays when stimulus i of each is put in front, holds of both
 pub lists-below : (P : List Stimulus → List Stimulus → Type 0) (f g : ℕ → Stimulus) (n : ℕ) → P [] []
     → ((i : ℕ) → i < n → (xs ys : List Stimulus) → P xs ys → P (f i ∷ xs) (g i ∷ ys))
     → P (listBelow f n) (listBelow g n)

@@ -1,4 +1,5 @@
 pub mod Alike
+pub mod Certified
 pub mod TwoRuns
 pub mod Computed
 pub mod Witness

@@ -36,9 +36,9 @@ use Rattle.trim.proofs.Validity.{circuit-valid}
 use Rattle.trim.proofs.Own.{certificate-fits}
 use Rattle.trim.proofs.Bytes.{parts-length}
 use Rattle.trim.proofs.Promise.{answer-told}
+use Rattle.guarantee.proofs.Certified.{fact-written}
 use Rattle.guarantee.proofs.Passing.{call-accepted}
 use Rattle.guarantee.proofs.Trimming.{facts-own}
-use Rattle.guarantee.proofs.TrimmedCertificate.{fact-written}
 
 byte-range : (f : Fact) → (1 ≤ factByte f) × (factByte f ≤ 3)
 byte-range (Always n) = (omega arith, omega arith)

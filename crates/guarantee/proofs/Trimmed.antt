@@ -28,14 +28,14 @@ use Rattle.trim.specs.Promise.{CallTrims}
 use Rattle.trim.specs.Trimmed.{replaced, newNumber, trimmed}
 use Rattle.trim.proofs.Replaced.{replaced-length}
 use Rattle.trim.proofs.Survivors.{oldNumber, kept-survive, old-new, new-below, trimmed-length}
-use Rattle.trim.proofs.TrimmedRecords.{old-below}
 use Rattle.trim.proofs.Machines.{machine-follows}
 use Rattle.trim.proofs.Accepted.{accepted-trimmable, trimmed-records, trimmed-length-passes, trimmed-records-pass}
 use Rattle.trim.proofs.Accepted.{trimmed-without-loop}
 use Rattle.guarantee.specs.Trimmed.{RenumberedStimuli, TrimmedAlike}
 use Rattle.guarantee.proofs.Passing.{bench-accepted}
 use Rattle.guarantee.proofs.Renumbered.{stimuli-renumbered, renumbered-passes}
-use Rattle.guarantee.proofs.Trimming.{certified-inside, own-size, own-circuit, own-numbers}
+use Rattle.guarantee.proofs.Certified.{certified-inside}
+use Rattle.guarantee.proofs.Trimming.{own-size, own-circuit, own-numbers, own-below}
 
 module _ {t cells scratch cells′ scratch′ : List ℕ} {rounds : ℕ}
     (p : Certifies (lent t cells scratch) (left cells′ scratch′) (certified.Accepted rounds))
@@ -70,14 +70,6 @@ module _ {t cells scratch cells′ scratch′ : List ℕ} {rounds : ℕ}
   records : length t′ / 16 ≡ k
   records = trimmed-records q
 
-  is-trimmed : circuit t′ (length t′ / 16) ≡ c′
-  is-trimmed = ap (circuit t′) records ∙ own-circuit p q
-
-  -- an old number is one of the table's
-  number-below : (j : ℕ) → j < k → getD numbers j 0 < n
-  number-below j h =
-      omega (arith, olds j h, old-below c (certificate c) kept j (rw (← size) h), circuit-length t n)
-
   -- a kept variable has a new number
   kept-numbered : (i : ℕ) → i < length kept → (j : ℕ) × (j < k) × (getD numbers j 0 ≡ getD kept i 0)
   kept-numbered i h =
@@ -101,7 +93,7 @@ module _ {t cells scratch cells′ scratch′ : List ℕ} {rounds : ℕ}
       (output : k ≤ length values₁) (room : k * 4 ≤ length scratch₃) (h : RenumberedStimuli numbers k s s′) where
     later : checkStimuli (circuit t′ (length t′ / 16)) s′ ≡ Passed
     later =
-        rw is-trimmed
+        rw (own-circuit p q)
         (renumbered-passes c kept (certified-inside p) (p .past .no-loop) numbers k size olds s s′ h (b .later))
 
     accepted : r ≡ benched.Accepted
@@ -113,12 +105,12 @@ module _ {t cells scratch cells′ scratch′ : List ℕ} {rounds : ℕ}
     same j below =
         value-written s′ _ _
         (subst (Benches s′ (lent t′ values₁ scratch₃) (left values₁′ scratch₃′)) accepted b′) j (rw records below)
-        ∙ ap (λ (d : Circuit). machine d (stimuli s′) j) is-trimmed
+        ∙ ap (λ (d : Circuit). machine d (stimuli s′) j) (own-circuit p q)
         ∙ machine-follows c kept (certified-inside p) (p .past .no-loop)
         (stimuli-renumbered c kept (certified-inside p) (p .past .no-loop) numbers k size olds s s′ h)
         (stimuli-accepted c s (b .later)) j (rw (← size) below)
         ∙ ap (machine c (stimuli s)) (sym (olds j below))
-        ∙ sym (value-written s _ _ b (getD numbers j 0) (number-below j below))
+        ∙ sym (value-written s _ _ b (getD numbers j 0) (own-below p q j below))
 
     -- the second list is accepted, and the two runs end in the same values, along old numbers
     pub trimmed-alike : TrimmedAlike kept numbers k values′ values₁′ r

@@ -23,12 +23,12 @@ use Rattle.trim.specs.declared.Trimmed.the-variants as trim
 use Rattle.trim.specs.Promise as trim-call
 use Rattle.trim.specs.Promise.{CallTrims}
 use Rattle.trim.specs.Trimmed.{replaced, trimmed}
-use Rattle.trim.proofs.TrimmedRecords.{old-below}
 use Rattle.trim.proofs.Certificates.{certificate-follows}
 use Rattle.trim.proofs.Accepted.{trimmed-records, trimmed-records-pass, trimmed-without-loop}
 use Rattle.guarantee.specs.TwoRuns.{AlikeStimuli, ClaimsHold}
 use Rattle.guarantee.specs.Trimmed.{survivorLines}
-use Rattle.guarantee.proofs.Trimming.{certified-inside, facts-certified, own-size, own-circuit, own-numbers}
+use Rattle.guarantee.proofs.Certified.{certified-inside, facts-certified}
+use Rattle.guarantee.proofs.Trimming.{own-size, own-circuit, own-numbers, own-below}
 use Rattle.guarantee.proofs.TwoRuns.{facts-guaranteed}
 
 -- byte m of line j
@@ -60,9 +60,6 @@ module _ {t cells scratch cells′ scratch′ : List ℕ} {rounds : ℕ}
   abbrev c′ : Circuit
   c′ = circuit t′ (length t′ / 16)
 
-  is-trimmed : c′ ≡ trimmed (replaced c (certificate c)) kept
-  is-trimmed = ap (circuit t′) (trimmed-records q) ∙ own-circuit p q
-
   inside′ : Inside c′
   inside′ = circuit-inside t′ (length t′ / 16) (trimmed-records-pass q)
 
@@ -71,14 +68,13 @@ module _ {t cells scratch cells′ scratch′ : List ℕ} {rounds : ℕ}
   lines-own j below =
       let small : j < k = omega (arith, trimmed-records q, circuit-length t′ (length t′ / 16)) in
       let variable : j < length (trimmed (replaced c (certificate c)) kept) = rw (← own-size p q) small in
-      let old : getD numbers j 0 < length c =
-      omega (arith, own-numbers p q j small, old-below c (certificate c) kept j variable) in
+      let old : getD numbers j 0 < length c = omega (arith, own-below p q j small, circuit-length t n) in
       facts-laws .local (survivorLines numbers k cells′) cells′ (j * 8) (getD numbers j 0 * 8)
       (λ m h. line-byte numbers k cells′ j m small h)
       ∙ facts-certified p (getD numbers j 0) old
       ∙ ap (certificate c) (own-numbers p q j small)
       ∙ sym (certificate-follows c kept (certified-inside p) (p .past .no-loop) j variable)
-      ∙ sym (ap (λ (d : Circuit). certificate d j) is-trimmed)
+      ∙ sym (ap (λ (d : Circuit). certificate d j) (own-circuit p q))
 
   -- they are the least closed store of the trimmed table
   pub lines-least : LeastStore c′ (factAt (survivorLines numbers k cells′))

@@ -11,18 +11,17 @@ use lib.ListN.{length, getD}
 use Rattle.circuit.specs.Number.{u32At}
 use Rattle.circuit.specs.Circuit.{Circuit, circuit, NoLoop}
 use Rattle.circuit.specs.Stimuli.{stimuli}
-use Rattle.circuit.proofs.Tables.{Inside, circuit-length, circuit-inside}
+use Rattle.circuit.proofs.Tables.{Inside, circuit-length}
 use Rattle.circuit.proofs.Stimuli.{stimuli-accepted}
 use Rattle.fact.specs.Fact.{factAt}
 use Rattle.fact.specs.Certificate as definition
 use Rattle.fact.specs.TwoRuns.{Claims}
 use Rattle.fact.proofs.Claims.{claims-always, claims-open}
-use Rattle.fact.proofs.Certificate.{least-unique, certificate-least, two-runs-claimed}
+use Rattle.fact.proofs.Certificate.{two-runs-claimed}
 use Rattle.call.specs.Call.{lent, left}
-use Rattle.call.proofs.Parts.{table-checked}
 use Rattle.certificate.specs.declared.Certified.{Certified}
 use Rattle.certificate.specs.declared.Certified.the-variants as certified
-use Rattle.certificate.specs.Promise.{certifying, Certifies}
+use Rattle.certificate.specs.Promise.{Certifies}
 use Rattle.machine.specs.declared.Benched.{Benched}
 use Rattle.machine.specs.declared.Benched.the-variants as benched
 use Rattle.machine.specs.Promise.{Benches}
@@ -31,6 +30,7 @@ use Rattle.guarantee.specs.declared.Answers.{Answers}
 use Rattle.guarantee.specs.TwoRuns.{AlikeStimuli, ClaimHolds, ClaimsHold}
 use Rattle.guarantee.specs.Guarantee.{Guarantees}
 use Rattle.guarantee.proofs.Alike.{lists-alike}
+use Rattle.guarantee.proofs.Certified.{certified-inside, facts-certified}
 
 -- what the fact in a certificate's bytes claims of two numbers, by byte 0 and bytes 4-7
 claim-holds : (cells values values′ : List ℕ) (v : ℕ) → Claims (factAt cells v) (getD values v 0) (getD values′ v 0)
@@ -82,18 +82,7 @@ module _ (t certificate scratch certificate′ scratch′ : List ℕ)
   pub two-runs-guaranteed : {k : ℕ} → Certifying (certified.Accepted k) → First benched.Accepted
       → Second benched.Accepted → AlikeStimuli t s₁ s₂ → ClaimsHold t certificate′ values₁′ values₂′
   two-runs-guaranteed p q q′ a =
-      facts-guaranteed t certificate′ inside (p .past .no-loop)
-      (least-unique c (factAt certificate′) (definition.certificate c) (p .accepts .least)
-      (certificate-least c inside (p .past .no-loop))) q q′ a
-    where
-      n : ℕ
-      n = length t / 16
-
-      c : Circuit
-      c = circuit t n
-
-      inside : Inside c
-      inside = circuit-inside t n (table-checked certifying (lent t certificate scratch) (p .past .passed) .valid)
+      facts-guaranteed t certificate′ (certified-inside p) (p .past .no-loop) (facts-certified p) q q′ a
 
   pub calls-guaranteed : (r : Answers) → Certifying (r .certified) → First (r .first) → Second (r .second)
       → Guarantees (lent t certificate scratch) (left certificate′ scratch′) s₁ (lent t values₁ scratch₁)
