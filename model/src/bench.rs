@@ -34,7 +34,8 @@ impl Stimulus {
         }
     }
 
-    /// The first of grounds 15 to 17 that holds, in the table of which `record` gives each variable's record.
+    /// The first of grounds 15, 17 and 16, as request S-6 orders them, that holds in the table of which `record`
+    /// gives each variable's record.
     #[inline(always)]
     pub fn check(self, record: impl Fn(usize) -> Option<Record>) -> Result<(), u32> {
         let Stimulus::Poke { variable, n } = self else {
@@ -43,11 +44,9 @@ impl Stimulus {
         let Some(Record::Input { width, kind }) = record(variable) else {
             return Err(15);
         };
-        if !fits(n, width) {
-            return Err(16);
-        }
         match kind {
             InputKind::Fixed(fixed) if n != fixed => Err(17),
+            _ if !fits(n, width) => Err(16),
             _ => Ok(()),
         }
     }

@@ -5,6 +5,7 @@
 
 mod common;
 
+use common::grounds::STIMULUS_GROUNDS;
 use common::shapes::table_or_shape;
 use common::tables::{damage, random_stimuli, random_table, renumbered};
 use common::{
@@ -90,7 +91,8 @@ fn ground_of_list(list: &[u8], records: &[Record]) -> Option<(u32, usize)> {
         return Some((13, 0));
     }
     list.chunks(8).enumerate().find_map(|(place, bytes)| {
-        let ground = (14..=17).find(|&ground| holds_of_stimulus(ground, bytes, records))?;
+        let ground =
+            STIMULUS_GROUNDS.into_iter().find(|&ground| holds_of_stimulus(ground, bytes, records))?;
         Some((ground, place))
     })
 }

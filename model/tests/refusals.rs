@@ -401,7 +401,7 @@ fn ground_14_before_15() {
 }
 
 #[test]
-fn ground_15_before_16() {
+fn ground_15_before_16_and_17() {
     let no_inputs = [CONSTANT, OPERATOR, MULTIPLEXER, REGISTER, ENABLED];
     for variable in no_inputs.into_iter().chain([usize::from(PAST), 65_535]) {
         for n in [0, 15, 16, u32::MAX] {
@@ -421,10 +421,13 @@ fn ground_16() {
 }
 
 #[test]
-fn ground_16_before_17() {
-    assert_bench_refused(&with(&[]), &poke_bytes(FIXED as u16, 16), 16, 0);
-    // The low four bits are the fixed input's n.
-    assert_bench_refused(&with(&[]), &poke_bytes(FIXED as u16, 25), 16, 0);
+fn ground_17_before_16() {
+    // The low four bits of 25 are the fixed input's n.
+    for n in [16, 25, 65_545, u32::MAX] {
+        let stimuli = [poke_bytes(FIXED as u16, 9), poke_bytes(FIXED as u16, n)];
+        assert_bench_refused(&with(&[]), stimuli.as_flattened(), 17, 1);
+        assert_bench_refused(&with(&[]), &stimuli[1], 17, 0);
+    }
 }
 
 #[test]

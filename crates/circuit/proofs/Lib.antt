@@ -12,5 +12,6 @@ pub mod Scan
 pub mod Values
 pub mod Stimuli
 pub mod Places
+pub mod WidePokes
 pub mod Evaluation
 pub mod Numbers

@@ -4,9 +4,9 @@
 use mathlib.Core.Path.{_≡_, refl, sym, ap, ap₂, _∙_, subst}
 use mathlib.Core.Bool.{Bool, true, false, not, _&&_, _||_}
 use mathlib.Core.List.{List, [], _∷_}
-use Prim.Native.Nat.{ℕ, zero, suc, _+_, _-_, _*_, _/_, _%_, _^_, _≤_}
+use Prim.Native.Nat.{ℕ, zero, suc, _+_, _-_, _*_, _/_, _%_, _^_, _<_, _≤_}
 use native.Mathlib.Omega.{arith}
-use borrow.Author.Tests.{ltb-false}
+use borrow.Author.Tests.{ltb-false, not-false}
 use lib.Dec.{eqb, leb, ltb}
 use lib.ListN.{length, getD}
 use Rattle.net.specs.Tests.{every}
@@ -20,6 +20,7 @@ use Rattle.circuit.specs.declared.refusal.Check.the-variants as check
 use Rattle.circuit.specs.declared.record.Fields.{Fields}
 use Rattle.circuit.specs.declared.record.ReadRecord.the-variants.{Read}
 use Rattle.circuit.specs.declared.record.Record.{Record}
+use Rattle.circuit.specs.declared.stimulus.ReadStimulus.{ReadStimulus}
 use Rattle.circuit.specs.declared.stimulus.ReadStimulus.the-variants as stimulus
 use Rattle.circuit.specs.Refusal.{groundNumber, refuse, Finds, _then_}
 use Rattle.circuit.specs.Record.{width, uses, inputOf}
@@ -202,33 +203,55 @@ call-refusals t outputs scratch =
 abbrev OfList : ℕ → Ground → ℕ → Type 0
 OfList end ground place = (12 ≤ groundNumber ground) × (place ≤ end)
 
-stimulus-refusals : (c : Circuit) (s : List ℕ) (at i end : ℕ) (b : Bool) → i ≤ end
-    → Refusals (OfList end) (checkStimulus c (readFrom b (stimulusAt s at)) i)
-stimulus-refusals c s at i end true h = (omega arith, h)
-stimulus-refusals c s at i end false h = go (stimulusAt s at)
-  where
-    go : (x : Stimulus) → Refusals (OfList end) (checkStimulus c (stimulus.Read x) i)
-    go Tick = tt
-    go (Poke v x) =
-        refuse-refusals (OfList end) NotAnInput i (not (ltb v (length c) && isInput (inputOf (recordOf c v)))) _
-        (omega arith, h)
-        (λ _. refuse-refusals (OfList end) PokeTooWide i (leb (2 ^ width (recordOf c v)) x) _ (omega arith, h)
-        (λ _. refuse-refusals (OfList end) FixedInput i (fixedToOther (inputOf (recordOf c v)) x) check.Passed
-        (omega arith, h) (λ _. tt)))
+module _ (P : Ground → ℕ → Type 0) (c : Circuit) (i : ℕ) where
+  -- what is said of a value that is too wide for an input which is not fixed to another
+  abbrev OfWide : ReadStimulus → Type 0
+  OfWide read =
+      (v x : ℕ) → read ≡ stimulus.Read (Poke v x) → (ltb v (length c) && isInput (inputOf (recordOf c v))) ≡ true
+      → fixedToOther (inputOf (recordOf c v)) x ≡ false → leb (2 ^ width (recordOf c v)) x ≡ true → P PokeTooWide i
 
-each-refusals : (c : Circuit) (s : List ℕ) (count i end : ℕ) → i + count ≤ end
-    → Refusals (OfList end) (checkStimuliFrom c s count i)
-unfolding checkStimuliFrom
-each-refusals c s zero i end h = tt
-each-refusals c s (suc count) i end h =
-    then-refusals (OfList end) (checkStimulus c (readStimulus s (i * 8)) i) _
-    (stimulus-refusals c s (i * 8) i end (badStimulus s (i * 8)) (omega arith))
-    (λ e. each-refusals c s count (i + 1) end (omega arith))
+  last-refusal : (b : Bool) → (b ≡ true → P PokeTooWide i) → Refusals P (refuse PokeTooWide i b check.Passed)
+  last-refusal true h = h refl
+  last-refusal false h = tt
+
+  -- what holds of grounds 14, 15 and 17, and of 16 where none of these does, holds of a stimulus's refusal
+  pub stimulus-refusals : P BadStimulus i → P NotAnInput i → P FixedInput i → (b : Bool) (y : Stimulus)
+      → OfWide (readFrom b y) → Refusals P (checkStimulus c (readFrom b y) i)
+  stimulus-refusals bad other fixed true y wide = bad
+  stimulus-refusals bad other fixed false Tick wide = tt
+  stimulus-refusals bad other fixed false (Poke v x) wide =
+      refuse-refusals P NotAnInput i (not (ltb v (length c) && isInput (inputOf (recordOf c v)))) _ other
+      (λ e15. refuse-refusals P FixedInput i (fixedToOther (inputOf (recordOf c v)) x) _ fixed
+      (λ e17. last-refusal (leb (2 ^ width (recordOf c v)) x)
+      (λ e16. wide v x refl (not-false _ e15) e17 e16)))
+
+module _ (P : Ground → ℕ → Type 0) (c : Circuit) (s : List ℕ) where
+  -- what P says holds of the refusal of stimulus i, if it is refused
+  abbrev RefusalAt : ℕ → Type 0
+  RefusalAt i = Refusals P (checkStimulus c (readStimulus s (i * 8)) i)
+
+  each-refusals : (count i : ℕ) → ((j : ℕ) → i ≤ j → j < i + count → RefusalAt j)
+      → Refusals P (checkStimuliFrom c s count i)
+  unfolding checkStimuliFrom
+  each-refusals zero i h = tt
+  each-refusals (suc count) i h =
+      then-refusals P (checkStimulus c (readStimulus s (i * 8)) i) _ (h i (omega arith) (omega arith))
+      (λ _. each-refusals count (i + 1) (λ j low high. h j (omega arith) (omega arith)))
+
+  -- what holds of grounds 12 and 13, and of the refusal of each stimulus, holds of the list's refusal
+  pub list-refusals : P StimuliNotWhole 0 → P TooManyStimuli 0
+      → (length s / 8 ≤ 4096 → (i : ℕ) → i < length s / 8 → RefusalAt i) → Refusals P (checkStimuli c s)
+  unfolding checkStimuli
+  list-refusals whole many each =
+      refuse-refusals P StimuliNotWhole 0 (not (eqb (length s % 8) 0)) _ whole
+      (λ _. refuse-refusals P TooManyStimuli 0 (ltb 4096 (length s / 8)) _ many
+      (λ few. each-refusals (length s / 8) 0 (λ j low high. each (ltb-false 4096 _ few) j (omega arith))))
 
 pub stimuli-refusals : (c : Circuit) (s : List ℕ)
     → Refusals (λ ground place. (12 ≤ groundNumber ground) × (place ≤ 4096)) (checkStimuli c s)
-unfolding checkStimuli
 stimuli-refusals c s =
-    refuse-refusals (OfList 4096) StimuliNotWhole 0 (not (eqb (length s % 8) 0)) _ (omega arith, omega arith)
-    (λ _. refuse-refusals (OfList 4096) TooManyStimuli 0 (ltb 4096 (length s / 8)) _ (omega arith, omega arith)
-    (λ few. each-refusals c s (length s / 8) 0 4096 (omega (arith, ltb-false 4096 (length s / 8) few))))
+    list-refusals (OfList 4096) c s (omega arith, omega arith) (omega arith, omega arith)
+    (λ few i h.
+    let at : i ≤ 4096 = omega arith in
+    stimulus-refusals (OfList 4096) c i (omega arith, at) (omega arith, at) (omega arith, at)
+    (badStimulus s (i * 8)) (stimulusAt s (i * 8)) (λ v x read input own wide. (omega arith, at)))

@@ -49,9 +49,9 @@ poke-tests : (c : Circuit) (v x i : ℕ) → checkStimulus c (Read (Poke v x)) i
     × (leb (2 ^ width (recordOf c v)) x ≡ false)
     × (fixedToOther (inputOf (recordOf c v)) x ≡ false)
 poke-tests c v x i e =
-    let (e15, p16) = refuse-passed NotAnInput i (not (ltb v (length c) && isInput (inputOf (recordOf c v)))) _ e in
-    let (e16, p17) = refuse-passed PokeTooWide i (leb (2 ^ width (recordOf c v)) x) _ p16 in
-    let (e17, p) = refuse-passed FixedInput i (fixedToOther (inputOf (recordOf c v)) x) _ p17 in
+    let (e15, p17) = refuse-passed NotAnInput i (not (ltb v (length c) && isInput (inputOf (recordOf c v)))) _ e in
+    let (e17, p16) = refuse-passed FixedInput i (fixedToOther (inputOf (recordOf c v)) x) _ p17 in
+    let (e16, p) = refuse-passed PokeTooWide i (leb (2 ^ width (recordOf c v)) x) _ p16 in
     (e15, e16, e17)
 
 pub poke-passed : (c : Circuit) (v x i : ℕ) → checkStimulus c (Read (Poke v x)) i ≡ Passed → Poked c v x

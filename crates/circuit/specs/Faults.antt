@@ -1,5 +1,6 @@
 -- Refusals computed from bytes and lengths: every ground but 11 alone, with its place, and of every two that are tried
--- one after the other the first. What is given has no fault; each fault is a change to it.
+-- one after the other the first, but of 15 and 17, which are never met together. What is given has no fault; each fault
+-- is a change to it.
 -- Assumes nothing.
 use mathlib.Core.Path.{_≡_, refl}
 use mathlib.Core.List.{List, [], _∷_, _++_, flatten, map}
@@ -130,7 +131,15 @@ scratchShort =
 abbrev valueTooWide : Fault
 valueTooWide = recordByte 10 2 13 1
 
--- grounds 1 to 10 and 12 to 17, in checking order
+-- the poke of the free input names the register
+abbrev notAnInput : Fault
+notAnInput = stimulusByte 15 1 2 2
+
+-- that poke has the value 271
+abbrev pokeTooWide : Fault
+pokeTooWide = stimulusByte 16 1 5 1
+
+-- grounds 1 to 10 and 12 to 17, in checking order: 17 is tried before 16
 abbrev faults : List Fault
 faults =
     tooLong
@@ -146,11 +155,11 @@ faults =
     ∷ valueTooWide
     ∷ inStimuli 12 0 (λ s. s ++ (0 ∷ []))
     ∷ inStimuli 13 0 (λ s. s ++ flatten (replicate 4094 tick))
-    -- the poke of the free input: byte 1, the register's number, 271, the fixed one's number
+    -- the poke of the free input: byte 1, the register's number, the fixed one's number, 271
     ∷ stimulusByte 14 1 1 1
-    ∷ stimulusByte 15 1 2 2
-    ∷ stimulusByte 16 1 5 1
+    ∷ notAnInput
     ∷ stimulusByte 17 1 2 0
+    ∷ pokeTooWide
     ∷ []
 
 -- the sum uses itself: a loop of one, which no check finds
@@ -243,13 +252,21 @@ others =
     ∷ stimulusByte 16 1 4 16
     ∷ stimulusByte 16 1 6 1
     ∷ stimulusByte 16 1 7 1
-    -- 8 and 10 into the input that is fixed to 9
+    -- 8 and 10 into the input that is fixed to 9, and what does not fit it: 16, 25, whose low four bits are 9, 9 + 2^24
     ∷ stimulusByte 17 0 4 8
     ∷ stimulusByte 17 0 4 10
+    ∷ stimulusByte 17 0 4 16
+    ∷ stimulusByte 17 0 4 25
+    ∷ stimulusByte 17 0 7 1
     ∷ []
 
+-- the free input is secret, which meets no ground
+abbrev secretInput : Fault
+secretInput = recordByte 0 1 2 2
+
 -- The last ground of a record is tried before the first of the next one, and so of a stimulus. Ground 10 is found where
--- there is a loop, too. 4,096 stimuli are not too many.
+-- there is a loop, too. 4,096 stimuli are not too many. A value that is too wide for the register is refused on 15, which
+-- is tried before 16; one that is too wide for a secret input is refused on 16.
 abbrev pub refusals : List (List Fault)
 refusals =
     []
@@ -257,9 +274,11 @@ refusals =
     ++ (neighbours faults
     ++ (map alone others
     ++ ((valueTooWide ∷ recordByte 5 3 0 6 ∷ [])
-    ∷ (stimulusByte 17 1 2 0 ∷ stimulusByte 14 2 1 1 ∷ [])
+    ∷ (pokeTooWide ∷ stimulusByte 14 2 1 1 ∷ [])
     ∷ (valueTooWide ∷ loop ∷ [])
     ∷ (stimulusByte 14 0 1 1 ∷ fullList ∷ [])
+    ∷ (notAnInput ∷ pokeTooWide ∷ [])
+    ∷ (pokeTooWide ∷ secretInput ∷ [])
     ∷ []))))
 
 -- of all faults of a row the first is found; of none nothing

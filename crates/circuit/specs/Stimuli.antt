@@ -1,4 +1,5 @@
--- Document 01's stimuli from their bytes, 8 a stimulus, and grounds 12 to 17 in order.
+-- Document 01's stimuli from their bytes, 8 a stimulus, and grounds 12 to 17 in order, 17 before 16 as request S-6 has
+-- it.
 -- Assumes nothing.
 use mathlib.Core.Path.{_≡_}
 use mathlib.Core.Bool.{Bool, true, false, not, _&&_, _||_}
@@ -71,14 +72,14 @@ fixedToOther (some Free) x = false
 fixedToOther (some Secret) x = false
 fixedToOther none x = false
 
--- grounds 14 to 17 of stimulus i: a poke names an input of the table, with a value that fits and that a fixed one has
+-- grounds 14 to 17 of stimulus i: a poke names an input of the table, with a value that a fixed one has and that fits
 abbrev pub checkStimulus : Circuit → ReadStimulus → ℕ → Check
 checkStimulus c (Refused ground) i = check.Refused ground i
 checkStimulus c (Read Tick) i = check.Passed
 checkStimulus c (Read (Poke v x)) i =
     refuse NotAnInput i (not (ltb v (length c) && isInput (inputOf (recordOf c v))))
-    (refuse PokeTooWide i (leb (2 ^ width (recordOf c v)) x)
-    (refuse FixedInput i (fixedToOther (inputOf (recordOf c v)) x) check.Passed))
+    (refuse FixedInput i (fixedToOther (inputOf (recordOf c v)) x)
+    (refuse PokeTooWide i (leb (2 ^ width (recordOf c v)) x) check.Passed))
 
 -- grounds 14 to 17 of `count` stimuli from stimulus i on
 unfoldable pub checkStimuliFrom : Circuit → List ℕ → ℕ → ℕ → Check

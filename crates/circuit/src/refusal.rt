@@ -1,4 +1,4 @@
-// The grounds for turning work down, in checking order, their numbers, and what a check of some of them finds.
+// The grounds for turning work down, in the order of their numbers, these, and what a check of some of them finds.
 ghost use mathlib.Core.Path.{_≡_};
 ghost use Rattle.circuit.specs.Refusal.{groundNumber};
 

@@ -44,7 +44,7 @@ module _ (t : List ℕ) (n v x i : ℕ) (h : v < n) (r : Record) (e : r ≡ deco
   poke-other y q other = rw (record-here t n v h r e y q, other, and-false (ltb v (length (circuit t n))))
 
   pub poke-input : (w : ℕ) (k : InputKind) → r ≡ Input w k
-      → refuse PokeTooWide i (leb (2 ^ w) x) (refuse FixedInput i (fixedToOther (some k) x) Passed)
+      → refuse FixedInput i (fixedToOther (some k) x) (refuse PokeTooWide i (leb (2 ^ w) x) Passed)
       ≡ checkStimulus (circuit t n) (Read (Poke v x)) i
   poke-input w k q = rw (circuit-length t n, lt-ltb v n h, record-here t n v h r e (Input w k) q)
 

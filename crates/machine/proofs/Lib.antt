@@ -4,5 +4,6 @@ pub mod Acting
 pub mod Running
 pub mod Promise
 pub mod Satisfied
+pub mod WidePokes
 pub mod ReaderOwned
 pub mod Reading

@@ -35,19 +35,19 @@ fn fixed_to_other(kind: InputKind, x: u32) -> bool
     }
 }
 
-// Grounds 16 and 17 of stimulus i, which pokes an input with x.
+// Grounds 17 and 16, in this order, of stimulus i, which pokes an input with x.
 fn check_value(w: u8, kind: InputKind, x: u32, i: usize) -> Check
     requires { ⌜ w ≤ 32 ⌝ }
-    ensures { λ r. ⌜ r ≡ refuse ground.PokeTooWide i (leb (2 ^ w) x)
-        (refuse ground.FixedInput i (fixedToOther (some kind) x) check.Passed) ⌝ }
+    ensures { λ r. ⌜ r ≡ refuse ground.FixedInput i (fixedToOther (some kind) x)
+        (refuse ground.PokeTooWide i (leb (2 ^ w) x) check.Passed) ⌝ }
 {
-    let unfit = too_wide(x, w, power(w));
     let tied = fixed_to_other(kind, x);
-    if unfit {
-        return Check::Refused(Ground::PokeTooWide, i);
-    }
+    let unfit = too_wide(x, w, power(w));
     if tied {
         return Check::Refused(Ground::FixedInput, i);
+    }
+    if unfit {
+        return Check::Refused(Ground::PokeTooWide, i);
     }
     Check::Passed
 }

@@ -9,7 +9,9 @@ use common::document_cases::document_cases;
 use common::enable_cases::enable_cases;
 use common::fixed_cases::fixed_cases;
 use common::fixed_pokes::FixedPokes;
-use common::grounds::{list_that_meets, sound_stimuli, stimulus_that_meets_only, table_that_meets};
+use common::grounds::{
+    bench_grounds, list_that_meets, sound_stimuli, stimulus_that_meets_only, table_that_meets,
+};
 use common::hand_runs::hand_runs;
 use common::samples::{
     every_rule, one_of_each, samples, BOUNDARY_VALUES, ENABLED, FIXED_N, FIXED_OPERAND, FREE_OPERAND,
@@ -102,7 +104,7 @@ fn sample_tables() {
 /// a stimulus behind so many sound ones, is refused on the first of them.
 fn assert_first(meets: impl Fn(u32) -> bool + Copy, register: usize, behind: usize) {
     let (table, list) = (table_that_meets(meets, register), list_that_meets(meets, behind));
-    let first = (1..=17).find(|&ground| meets(ground));
+    let first = bench_grounds().find(|&ground| meets(ground));
     let answer = bench_on(&table, &list, asked(&table).that_meet(meets));
     assert_eq!(answer.err().map(|refusal| refusal.ground), first);
     match (answer, first) {
@@ -198,8 +200,8 @@ fn values_around_every_width() {
         for (record, n) in inputs.into_iter().zip([None, None, Some(0), Some(1), Some(largest)]) {
             for value in [0, 1, 2, largest - 1, largest, above, above | 1, u32::MAX - 1, u32::MAX] {
                 let expected = match n {
-                    _ if value > largest => refusal(16, 0),
                     Some(n) if n != value => refusal(17, 0),
+                    _ if value > largest => refusal(16, 0),
                     _ => Ok(()),
                 };
                 assert_eq!(bench(&record, &poke_bytes(0, value)), expected, "{value} at width {w}");

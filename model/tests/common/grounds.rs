@@ -27,6 +27,14 @@ pub fn table_that_meets(meets: impl Fn(u32) -> bool, register: usize) -> Vec<u8>
     table
 }
 
+/// The grounds that a bench call tries on each stimulus, in their order: 17 before 16.
+pub const STIMULUS_GROUNDS: [u32; 4] = [14, 15, 17, 16];
+
+/// The grounds that a bench call tries, in their order.
+pub fn bench_grounds() -> impl Iterator<Item = u32> {
+    (1..14).chain(STIMULUS_GROUNDS)
+}
+
 /// A list that meets each of these grounds among 12 to 17, behind so many stimuli that meet none. The first
 /// stimulus after these meets as many of 14 to 17 as one can; after it each ground is met alone.
 pub fn list_that_meets(meets: impl Fn(u32) -> bool, behind: usize) -> Vec<u8> {

@@ -110,7 +110,8 @@ fn stimuli() {
     assert_eq!(stimuli_error("poke five 5"), "five is no input");
     assert_eq!(stimuli_error("poke key 256"), "the value does not fit the width 8");
     // 0 is what a fixed input holds until it is poked, and no value to poke it with.
-    for line in ["poke tied 8", "poke tied 0"] {
+    // What does not fit it is refused for being another than its own, too.
+    for line in ["poke tied 8", "poke tied 0", "poke tied 4294967295"] {
         assert_eq!(stimuli_error(line), "tied is fixed and takes no value but its own");
     }
 }

@@ -1,4 +1,4 @@
--- Ground 15 where there is no such variable or it is no input; else grounds 16 and 17 of the input.
+-- Ground 15 where there is no such variable or it is no input; else grounds 17 and 16 of the input.
 -- Assumes nothing.
 use mathlib.Core.Path.{refl, _∙_}
 use Rattle.circuit.proofs.Operands.{width-here}
