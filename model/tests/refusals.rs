@@ -401,7 +401,7 @@ fn ground_14_before_15() {
 }
 
 #[test]
-fn ground_15_before_16_and_17() {
+fn ground_15_before_16() {
     let no_inputs = [CONSTANT, OPERATOR, MULTIPLEXER, REGISTER, ENABLED];
     for variable in no_inputs.into_iter().chain([usize::from(PAST), 65_535]) {
         for n in [0, 15, 16, u32::MAX] {

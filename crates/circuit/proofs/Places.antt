@@ -126,10 +126,15 @@ module _ (P : Ground → ℕ → Type 0) where
   then-refusals check.Passed b h k = k refl
   then-refusals (check.Refused ground place) b h k = h
 
+  -- the refusal of a test is its own where it holds, else that of what is tried next
+  refuse-tested : (ground : Ground) (place : ℕ) (b : Bool) (next : Check) → (b ≡ true → P ground place)
+      → (b ≡ false → Refusals P next) → Refusals P (refuse ground place b next)
+  refuse-tested ground place true next h k = h refl
+  refuse-tested ground place false next h k = k refl
+
   pub refuse-refusals : (ground : Ground) (place : ℕ) (b : Bool) (next : Check) → P ground place
       → (b ≡ false → Refusals P next) → Refusals P (refuse ground place b next)
-  refuse-refusals ground place true next h k = h
-  refuse-refusals ground place false next h k = k refl
+  refuse-refusals ground place b next h k = refuse-tested ground place b next (λ _. h) k
 
 -- ---- grounds 1 to 10
 
@@ -210,10 +215,6 @@ module _ (P : Ground → ℕ → Type 0) (c : Circuit) (i : ℕ) where
       (v x : ℕ) → read ≡ stimulus.Read (Poke v x) → (ltb v (length c) && isInput (inputOf (recordOf c v))) ≡ true
       → fixedToOther (inputOf (recordOf c v)) x ≡ false → leb (2 ^ width (recordOf c v)) x ≡ true → P PokeTooWide i
 
-  last-refusal : (b : Bool) → (b ≡ true → P PokeTooWide i) → Refusals P (refuse PokeTooWide i b check.Passed)
-  last-refusal true h = h refl
-  last-refusal false h = tt
-
   -- what holds of grounds 14, 15 and 17, and of 16 where none of these does, holds of a stimulus's refusal
   pub stimulus-refusals : P BadStimulus i → P NotAnInput i → P FixedInput i → (b : Bool) (y : Stimulus)
       → OfWide (readFrom b y) → Refusals P (checkStimulus c (readFrom b y) i)
@@ -222,8 +223,8 @@ module _ (P : Ground → ℕ → Type 0) (c : Circuit) (i : ℕ) where
   stimulus-refusals bad other fixed false (Poke v x) wide =
       refuse-refusals P NotAnInput i (not (ltb v (length c) && isInput (inputOf (recordOf c v)))) _ other
       (λ e15. refuse-refusals P FixedInput i (fixedToOther (inputOf (recordOf c v)) x) _ fixed
-      (λ e17. last-refusal (leb (2 ^ width (recordOf c v)) x)
-      (λ e16. wide v x refl (not-false _ e15) e17 e16)))
+      (λ e17. refuse-tested P PokeTooWide i (leb (2 ^ width (recordOf c v)) x) check.Passed
+      (λ e16. wide v x refl (not-false _ e15) e17 e16) (λ _. tt)))
 
 module _ (P : Ground → ℕ → Type 0) (c : Circuit) (s : List ℕ) where
   -- what P says holds of the refusal of stimulus i, if it is refused
