@@ -101,7 +101,7 @@ fn certify_row(shape: &Shape, archives: Option<&[Archive; 2]>) -> Option<String>
     print_row(&head, (wires + registers) * (rounds + 1), &times);
     archives.map(|archives| {
         let calls = archives.each_ref().map(|archive| archive.certify);
-        before_row(&head, &certify_each(calls, table, 0), calls.map(ready))
+        before_row(&head, &certify_each(calls, table, 0), calls.map(ready), true)
     })
 }
 
@@ -124,7 +124,7 @@ fn bench_row(shape: &Shape, archives: Option<&[Archive; 2]>) -> Option<String> {
     print_row(&head, wires * (count + 1) + registers * ticks, &times);
     archives.map(|archives| {
         let calls = archives.each_ref().map(|archive| archive.bench);
-        before_row(&head, &bench_each(calls, table, stimuli, 0), calls.map(ready))
+        before_row(&head, &bench_each(calls, table, stimuli, 0), calls.map(ready), false)
     })
 }
 
@@ -148,21 +148,28 @@ fn trim_row(shape: &Shape, archives: Option<&[Archive; 2]>) -> Option<String> {
     archives.map(|archives| match archives.each_ref().map(|archive| archive.trim) {
         [Some(this), Some(earlier)] => {
             let calls = [this, earlier];
-            before_row(&head, &trim_each(calls, given, 0, 0), calls.map(ready))
+            before_row(&head, &trim_each(calls, given, 0, 0), calls.map(ready), false)
         }
         _ => empty_row(&head),
     })
 }
 
-/// The two archives' times, with empty cells where the earlier one refuses what this one accepts.
+/// The two archives' times, with empty cells where the earlier one refuses what this one accepts. Facts go by
+/// the rules: where `by_rules` and the earlier one has another answer or output, its rules are others, and the
+/// row says so.
 fn before_row<A: PartialEq + Debug, O: PartialEq + Debug>(
     head: &str,
     made: &[Made<A, O>; 2],
     mut calls: [Call; 2],
+    by_rules: bool,
 ) -> String {
-    if made[1].0.is_err() {
+    let [this, earlier] = made;
+    if earlier.0.is_err() {
         return empty_row(head);
     }
-    assert_alike(made);
-    compared_row(head, &compared(&mut calls))
+    let other_rules = by_rules && (&this.0, &this.1) != (&earlier.0, &earlier.1);
+    if !other_rules {
+        assert_alike(made);
+    }
+    compared_row(head, &compared(&mut calls), other_rules)
 }

@@ -36,14 +36,15 @@ pub fn print_row(head: &str, evaluations: usize, times: &[f64]) {
 }
 
 /// The row of two archives' times, of which the first call is this one's.
-pub fn compared_row(head: &str, Compared { quartiles, ratios }: &Compared) -> String {
+pub fn compared_row(head: &str, Compared { quartiles, ratios }: &Compared, other_rules: bool) -> String {
     let [after, before] = quartiles.map(|spread| {
         let decimals = if spread[1] < 1000.0 { 4 } else { 2 };
         let [low, median, high] = spread.map(|ns| format!("{:.decimals$}", ns / 1000.0));
         format!("{median} ({low} to {high})")
     });
     let [lowest, _, middle, _, highest] = ratios;
-    before_cells(head, [before, after, format!("{middle:.2} ({lowest:.2} to {highest:.2})")])
+    let mark = if other_rules { " *" } else { "" };
+    before_cells(head, [before, after, format!("{middle:.2} ({lowest:.2} to {highest:.2}){mark}")])
 }
 
 /// The row where the earlier archive has no time.
@@ -52,7 +53,7 @@ pub fn empty_row(head: &str) -> String {
 }
 
 fn before_cells(head: &str, [before, after, ratio]: [String; 3]) -> String {
-    format!("{head} {before:>32} | {after:>32} | {ratio:>19} |")
+    format!("{head} {before:>32} | {after:>32} | {ratio:>21} |")
 }
 
 pub fn print_before(rows: impl Iterator<Item = String>) {
@@ -62,7 +63,7 @@ pub fn print_before(rows: impl Iterator<Item = String>) {
     println!(
         "of the turns: the middle one, lowest and highest; empty where the earlier one refuses, or has"
     );
-    println!("no such call");
+    println!("no such call; * where certify answers or writes something else, as the earlier one's rules are others");
     println!();
     println!("{}", before_cells(&titles(), ["before", "after", "after by before"].map(String::from)));
     println!("|---|---|---:|---:|---:|---:|---:|");

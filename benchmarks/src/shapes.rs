@@ -36,14 +36,16 @@ pub struct Shapes {
     pub for_trim: Vec<Shape>,
 }
 
-/// The shapes. Those with enables are made after the others of certify and the bench, and those for trim last,
-/// so that no other depends on them.
+/// The shapes. Those with enables are made after the others of certify and the bench, those for trim then, and
+/// those of operators that are not all known last, so that no other depends on them.
 pub fn shapes(random: &mut Random) -> Shapes {
     let (mut for_certify, mut for_bench) = (for_certify(random), for_bench(random));
     let [certify_enabled, bench_enabled] = with_enables(random);
     for_certify.extend(certify_enabled);
     for_bench.extend(bench_enabled);
-    Shapes { for_certify, for_bench, for_trim: for_trim(random) }
+    let for_trim = for_trim(random);
+    for_certify.extend(not_known(random));
+    Shapes { for_certify, for_bench, for_trim }
 }
 
 fn for_certify(random: &mut Random) -> Vec<Shape> {
@@ -121,19 +123,44 @@ fn for_trim(random: &mut Random) -> Vec<Shape> {
     ]
 }
 
+/// Operators of which none is always a number, and those on zeros, which decide some of them.
+fn not_known(random: &mut Random) -> [Shape; 2] {
+    [
+        shape("operators, none known", &operators_on(random, free(32), 4096)),
+        shape("operators on zeros", &operators_on_zeros(random, 4096)),
+    ]
+}
+
 /// The last record that uses others.
 fn last_user(table: &[RecordBytes]) -> u16 {
     let records = read_records(table.as_flattened()).unwrap();
     records.iter().rposition(|record| record.uses().count() > 0).unwrap() as u16
 }
 
-/// One constant and operators of width 32, each on the one before it and on any before it.
+/// One constant and operators on it.
 fn operators(random: &mut Random, n: usize) -> Table {
+    operators_on(random, constant(32, 0x9e37_79b9), n)
+}
+
+/// A record, and operators of width 32, each on the one before it and on any before it.
+fn operators_on(random: &mut Random, first: RecordBytes, n: usize) -> Table {
     let mut one = |i: usize| match i {
-        0 => constant(32, 0x9e37_79b9),
+        0 => first,
         _ => operator(random.pick(&Operator::BY_CODE), 32, i as u16 - 1, random.below(i) as u16),
     };
     (0..n).map(&mut one).collect()
+}
+
+/// Six leaves, two zeros, two other constants, a free and a secret input; and operators on any two of them.
+fn operators_on_zeros(random: &mut Random, n: usize) -> Table {
+    let zeros = [constant(32, 0), fixed(32, 0)];
+    let leaves = [zeros, [constant(32, 5), constant(32, 7)], [free(32), secret(32)]].concat();
+    let two = |random: &mut Random| [0; 2].map(|_| random.below(leaves.len()) as u16);
+    let operators = (leaves.len()..n).map(|_| {
+        let [a, b] = two(random);
+        operator(random.pick(&Operator::BY_CODE), 32, a, b)
+    });
+    leaves.iter().copied().chain(operators).collect()
 }
 
 /// A constant and a chain of registers behind it, which takes a round for each of them.

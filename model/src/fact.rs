@@ -1,7 +1,7 @@
 //! Document 01, "Facts": the three facts and their order, join and narrow, the rule of each kind of
 //! record, and closed stores. A store gives each variable a fact, the fact of variable i at place i.
 
-use crate::{remainder, InputKind, Record};
+use crate::{remainder, InputKind, Operator, Record};
 
 /// A fact of a variable: always n, open, or marked.
 #[derive(Debug, Clone, Copy, PartialEq, Eq)]
@@ -58,11 +58,9 @@ impl Record {
         match self {
             Record::Input { kind, .. } => kind.fact(),
             Record::Constant { n, .. } => Fact::Always(n),
-            Record::Operator { width, operator, a, b } => match (store(a), store(b)) {
-                (Fact::Always(a), Fact::Always(b)) => Fact::Always(operator.result(a, b, width)),
-                (Fact::Marked, _) | (_, Fact::Marked) => Fact::Marked,
-                _ => Fact::Open,
-            },
+            Record::Operator { width, operator, a, b } => {
+                operator_fact(operator, width, store(a), store(b))
+            }
             Record::Multiplexer { width, a, b, c } => {
                 multiplexer(store(a), store(b).narrow(width), store(c).narrow(width))
             }
@@ -83,6 +81,20 @@ impl InputKind {
             InputKind::Fixed(_) | InputKind::Free => Fact::Open,
             InputKind::Secret => Fact::Marked,
         }
+    }
+}
+
+/// The operator's rule on A's and B's facts. Request S-7 comes before document 01's rule: the and of always 0
+/// with any fact is always 0, and so are both shifts of always 0, and less where the right operand is always 0.
+#[inline(always)]
+fn operator_fact(operator: Operator, w: u32, a: Fact, b: Fact) -> Fact {
+    match (operator, a, b) {
+        (Operator::And, Fact::Always(0), _) | (Operator::And, _, Fact::Always(0)) => Fact::Always(0),
+        (Operator::ShiftLeft | Operator::ShiftRight, Fact::Always(0), _) => Fact::Always(0),
+        (Operator::Less, _, Fact::Always(0)) => Fact::Always(0),
+        (_, Fact::Always(a), Fact::Always(b)) => Fact::Always(operator.result(a, b, w)),
+        (_, Fact::Marked, _) | (_, _, Fact::Marked) => Fact::Marked,
+        _ => Fact::Open,
     }
 }
 

@@ -1,14 +1,15 @@
-//! The reference model of document 01 and of five requests, S-1, the price list, S-2, the register with an
-//! enable, S-3, fixed inputs that power up at 0, S-5, the trimmed table, and S-6, ground 17 before 16, written
-//! from their definitions and not for speed.
+//! The reference model of document 01 and of six requests, S-1, the price list, S-2, the register with an
+//! enable, S-3, fixed inputs that power up at 0, S-5, the trimmed table, S-6, ground 17 before 16, and S-7,
+//! known zeros that decide an operator, written from their definitions and not for speed.
 //!
 //! In the document's order: `record` (kinds, operators, records), `fields` (the bytes of a record, their
 //! reading and writing), `wires` (uses, loops, settling), `fact` (facts, rules, closed stores), `certify`
 //! (rounds, the certificate and its call), `machine` (power-on, poke, tick), `bench` (stimuli and the bench
 //! call) and `table` (the grounds that the calls on tables share). Request S-2's kind of record stands among
 //! the five of the document in `record`, `fields`, `fact`, `machine` and `certify`; `machine` has an input's
-//! first value and `fact` its fact as S-3 has them; `bench` has the grounds of a poke in S-6's order. From S-1:
-//! `bill` (the bill of an order). From S-5: `trim` (the trimmed table and its call).
+//! first value and `fact` its fact as S-3 has them; `bench` has the grounds of a poke in S-6's order; `fact` has
+//! S-7's zeros before the document's rule of an operator. From S-1: `bill` (the bill of an order). From S-5:
+//! `trim` (the trimmed table and its call).
 //!
 //! The benchmark's variants read and evaluate records by what is here too. What they call again and again is
 //! always inlined, so that no call between the crates is timed.

@@ -1,5 +1,5 @@
-//! Document 01's cases A to M, C as request S-3 has it, and cases of registers with an enable and of fixed
-//! inputs, with their whole certificates, and bench runs worked by hand.
+//! Document 01's cases A to M, C as request S-3 has it, and cases of registers with an enable, of fixed inputs
+//! and of known zeros, with their whole certificates, and bench runs worked by hand.
 
 mod common;
 
@@ -8,6 +8,7 @@ use common::enable_cases::enable_cases;
 use common::fixed_cases::fixed_cases;
 use common::hand_runs::hand_runs;
 use common::printed::printed_certificate;
+use common::zero_cases::zero_cases;
 use common::{bench_longer, certify_longer};
 
 /// Asserts that the certifying call's answers are those of the cases.
@@ -33,6 +34,11 @@ fn registers_with_an_enable() {
 #[test]
 fn fixed_inputs() {
     assert_certified(fixed_cases());
+}
+
+#[test]
+fn known_zeros() {
+    assert_certified(zero_cases());
 }
 
 #[test]

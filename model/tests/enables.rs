@@ -3,7 +3,7 @@
 
 mod common;
 
-use common::shapes::{chain, layers, register_chain, register_ring, table_or_shape};
+use common::shapes::{chain, gates, layers, register_chain, register_ring, table_or_shape};
 use common::tables::{random_stimuli, random_table};
 use common::times::{beside, Times, ALL, MARKED, OPEN, OTHER, THIS};
 use common::{cases, Random};
@@ -80,7 +80,7 @@ fn every_shape_has_registers_with_an_enable() {
     let mut random = Random::of_test("enables in shapes", 22);
     let loopless = |random: &mut Random, n| random_table(random, n, false);
     let with_loops = |random: &mut Random, n| random_table(random, n, true);
-    for shape in [loopless, with_loops, layers, chain, register_chain, register_ring] {
+    for shape in [loopless, with_loops, layers, chain, register_chain, register_ring, gates] {
         let (mut enabled, mut plain) = (0, 0);
         for _ in 0..100 {
             let records = read_records(shape(&mut random, 40).as_flattened()).unwrap();

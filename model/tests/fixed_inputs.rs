@@ -6,17 +6,11 @@
 mod common;
 
 use common::fixed_pokes::FixedPokes;
-use common::shapes::{random_pair, table_or_shape};
+use common::shapes::{random_pair, random_records, table_or_shape};
 use common::tables::random_stimuli;
 use common::times::{beside, Times, ALL, OTHER, THIS};
 use common::{bench_longer, cases, Random, StimulusBytes};
 use model::{find_loop, read_records, rounds, run, Fact, InputKind, Record, Stimulus};
-
-/// The records of a random table of up to 40 of them, without a loop.
-fn random_records(random: &mut Random) -> Vec<Record> {
-    let n = 1 + random.below(40);
-    read_records(table_or_shape(random, n).as_flattened()).unwrap()
-}
 
 /// The n of a fixed input.
 fn fixed_to(record: &Record) -> Option<u32> {

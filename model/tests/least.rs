@@ -65,10 +65,17 @@ fn result(operator: Operator, a: u32, b: u32, w: u32) -> u32 {
     (whole % power(w)) as u32
 }
 
-/// What the rule gives a variable from a store: nothing yet while an operand that it needs has nothing. A
-/// fixed input holds 0 at first, and n once it is poked. A register has its power-on value at least, and what
-/// it may load beside; one with an enable may load where that may be other than 0, and a secret tells whether
-/// it did where it holds one of several numbers.
+/// Whether an operand of which this much is known decides the operator: it is 0, and the result, which `with`
+/// gives from the other operand's number, is then 0 whatever that is. Of the nine operators 0 and 1 tell which
+/// are so (request S-7).
+fn decides(operand: Known, with: impl Fn(u32) -> u32) -> bool {
+    operand.number == Some(0) && [0, 1].into_iter().all(|other| with(other) == 0)
+}
+
+/// What the rule gives a variable from a store: nothing yet while an operand that it needs has nothing, for
+/// an operator both, also where one decides. A fixed input holds 0 at first, and n once it is poked. A register
+/// has its power-on value at least, and what it may load beside; one with an enable may load where that may be
+/// other than 0, and a secret tells whether it did where it holds one of several numbers.
 fn rule_from_below(record: &Record, store: &[Below]) -> Below {
     match *record {
         Record::Input { kind: InputKind::Fixed(n), .. } => join(always(0), always(n)),
@@ -78,6 +85,8 @@ fn rule_from_below(record: &Record, store: &[Below]) -> Below {
             let (a, b) = (store[a]?, store[b]?);
             match (a.number, b.number) {
                 (Some(a), Some(b)) => always(result(operator, a, b, width)),
+                _ if decides(a, |b| result(operator, 0, b, width)) => always(0),
+                _ if decides(b, |a| result(operator, a, 0, width)) => always(0),
                 _ => unknown(a.secret || b.secret),
             }
         }

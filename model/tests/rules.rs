@@ -1,5 +1,5 @@
 //! The order of facts, the operators and the rules of inputs, multiplexers and registers, each held against
-//! the words of document 01, or of requests S-2 and S-3, by example or over all of a small range.
+//! the words of document 01, or of requests S-2, S-3 and S-7, by example or over all of a small range.
 
 mod common;
 
@@ -124,22 +124,62 @@ fn the_rule_of_an_input() {
     }
 }
 
+/// What the rule of an operator of width w gives from the facts of A and B.
+fn operator_rule(code: Operator, w: u8, a: Fact, b: Fact) -> Fact {
+    let records = [free(8), free(8), operator(code, w, 0, 1)];
+    rule(&read_records(records.as_flattened()).unwrap(), &[a, b, Open], 2)
+}
+
 #[test]
 fn the_operator_rule() {
-    let records = [free(8), free(8), operator(Operator::And, 8, 0, 1)];
-    let records = read_records(records.as_flattened()).unwrap();
     for (a, b, fact) in [
         (Always(6), Always(3), Always(2)),
-        (Always(0), Open, Open),
-        (Open, Always(0), Open),
+        (Always(6), Open, Open),
+        (Open, Always(6), Open),
         (Open, Open, Open),
-        (Always(0), Marked, Marked),
-        (Marked, Always(0), Marked),
+        (Always(6), Marked, Marked),
+        (Marked, Always(6), Marked),
         (Marked, Open, Marked),
         (Open, Marked, Marked),
         (Marked, Marked, Marked),
     ] {
-        assert_eq!(rule(&records, &[a, b, Open], 2), fact, "{a:?} {b:?}");
+        assert_eq!(operator_rule(And, 8, a, b), fact, "{a:?} {b:?}");
+    }
+}
+
+#[test]
+fn known_zeros_of_every_operator() {
+    // Of each operator whether a zero decides as A, and as B.
+    let decides = [
+        (Add, [false, false]),
+        (Subtract, [false, false]),
+        (And, [true, true]),
+        (Or, [false, false]),
+        (Xor, [false, false]),
+        (Equal, [false, false]),
+        (Less, [false, true]),
+        (ShiftLeft, [true, false]),
+        (ShiftRight, [true, false]),
+    ];
+    assert_eq!(decides.map(|(code, _)| code), Operator::BY_CODE);
+    for ((code, [as_a, as_b]), w) in decides.into_iter().flat_map(|row| (1..=32).map(move |w| (row, w))) {
+        let unless = |decides, fact| if decides { Always(0) } else { fact };
+        for other in [Open, Marked] {
+            assert_eq!(operator_rule(code, w, Always(0), other), unless(as_a, other), "{code:?} {w}");
+            assert_eq!(operator_rule(code, w, other, Always(0)), unless(as_b, other), "{code:?} {w}");
+            // A number that is not 0, even where its remainder at the result's width is.
+            for n in [1, 1 << (w - 1), (1u64 << w) as u32, 32, u32::MAX].into_iter().filter(|&n| n != 0) {
+                assert_eq!(operator_rule(code, w, Always(n), other), other, "{code:?} {w} {n}");
+                assert_eq!(operator_rule(code, w, other, Always(n)), other, "{code:?} {w} {n}");
+            }
+        }
+        // Of two numbers always their result, which is 0 where one decides.
+        for n in [0, 1, 5, 31, 32, u32::MAX] {
+            let [of_a, of_b] = [code.result(0, n, w.into()), code.result(n, 0, w.into())];
+            assert_eq!(operator_rule(code, w, Always(0), Always(n)), Always(of_a));
+            assert_eq!(operator_rule(code, w, Always(n), Always(0)), Always(of_b));
+            assert!((!as_a || of_a == 0) && (!as_b || of_b == 0), "{code:?} {w} {n}");
+        }
     }
 }
 
@@ -213,14 +253,14 @@ fn every_rule_is_monotone() {
     let pairs = FACTS.into_iter().flat_map(|a| FACTS.map(|b| (a, b)));
     let stores: Vec<[Fact; 4]> = pairs.flat_map(|(a, b)| FACTS.map(|c| [a, b, c, Open])).collect();
     let used = [free(8), free(8), free(8)];
-    for record in [
-        operator(Less, 8, 0, 1),
+    let others = [
         multiplexer(2, 0, 1, 2),
         register(2, 1, 0),
         enabled(2, 1, 0, 1),
         enabled(2, 0, 0, 1),
         enabled(2, 1, 0, 0),
-    ] {
+    ];
+    for record in Operator::BY_CODE.map(|code| operator(code, 8, 0, 1)).into_iter().chain(others) {
         let records = [&used[..], &[record]].concat();
         let records = read_records(records.as_flattened()).unwrap();
         for lower in &stores {

@@ -15,10 +15,16 @@ use Rattle.fact.specs.Cases.{Case, CasesHold, caseA, caseB, caseC, caseD
 use Rattle.fact.specs.RequestCases.{caseEnableZero, caseEnableThree, caseEnableWide, caseEnableFree}
 use Rattle.fact.specs.RequestCases.{caseEnableSecret, caseEnableItself, caseEnableOpens, caseEnableRow}
 use Rattle.fact.specs.RequestCases.{caseCounter, caseEnableBound, caseFixed, requestCases}
+use Rattle.fact.specs.RequestCases.{caseZeroAnd, caseZeroShift, caseZeroLess, caseZeroElsewhere}
+use Rattle.fact.specs.RequestCases.{caseNoZero, caseGatedBus, caseGateOpens}
 
 -- numbers of A's variables that fall along every wire's uses
 abbrev pub ranksA : List ℕ
 ranksA = 0 ∷ 0 ∷ 0 ∷ 0 ∷ 2 ∷ 1 ∷ 1 ∷ []
+
+-- of wires that use the first four variables alone
+abbrev behindFour : List ℕ
+behindFour = 0 ∷ 0 ∷ 0 ∷ 0 ∷ 1 ∷ 1 ∷ 1 ∷ 1 ∷ 1 ∷ 1 ∷ 1 ∷ 1 ∷ 1 ∷ 1 ∷ []
 
 -- no row of a case's table is a loop, by numbers that fall
 no-loop : (x : Case) (ranks : List ℕ) → checkRecords (flatten (x .records)) (length (x .records)) ≡ Passed
@@ -60,4 +66,11 @@ request-cases-hold =
     also (refl, refl, no-loop caseCounter (0 ∷ 0 ∷ 0 ∷ 1 ∷ []) refl tt, refl, refl, refl)
     also (refl, refl, no-loop caseEnableBound (0 ∷ 1 ∷ []) refl tt, refl, refl, refl)
     also (refl, refl, no-loop caseFixed (0 ∷ 0 ∷ 0 ∷ 0 ∷ 0 ∷ 0 ∷ 1 ∷ 1 ∷ 1 ∷ 0 ∷ 0 ∷ 1 ∷ []) refl tt, refl, refl, refl)
+    also (refl, refl, no-loop caseZeroAnd behindFour refl tt, refl, refl, refl)
+    also (refl, refl, no-loop caseZeroShift behindFour refl tt, refl, refl, refl)
+    also (refl, refl, no-loop caseZeroLess behindFour refl tt, refl, refl, refl)
+    also (refl, refl, no-loop caseZeroElsewhere behindFour refl tt, refl, refl, refl)
+    also (refl, refl, no-loop caseNoZero behindFour refl tt, refl, refl, refl)
+    also (refl, refl, no-loop caseGatedBus (0 ∷ 0 ∷ 1 ∷ 0 ∷ 0 ∷ 1 ∷ []) refl tt, refl, refl, refl)
+    also (refl, refl, no-loop caseGateOpens (0 ∷ 0 ∷ 0 ∷ 1 ∷ []) refl tt, refl, refl, refl)
     also tt

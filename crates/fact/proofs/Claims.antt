@@ -4,15 +4,18 @@
 use mathlib.Core.Path.{_≡_, refl}
 use mathlib.Core.Bool.{Bool, true, false, cond}
 use Prim.Native.Nat.{ℕ, _%_, _^_}
-use lib.Dec.{eqb}
+use lib.Dec.{T, eqb}
+use Rattle.net.proofs.Bools.{T-of, cond-case}
 use Rattle.circuit.specs.declared.operator.Operator as operator
 use Rattle.circuit.specs.Operator.{result}
 use Rattle.circuit.specs.Machine.{multiplex, takeOrHold}
 use Rattle.fact.specs.declared.Fact.{Fact}
 use Rattle.fact.specs.declared.Fact.the-variants.{Always, Open, Marked}
 use Rattle.fact.specs.Fact.{_⊑_, itself, always-open, always-marked, open-marked, join, narrow}
-use Rattle.fact.specs.Rule.{operatorRule, alwaysOrMarked, choose, multiplexerRule, registerRule, enabledRule}
+use Rattle.fact.specs.Rule.{knownZero, zeroDecides, plainRule, operatorRule}
+use Rattle.fact.specs.Rule.{alwaysOrMarked, choose, multiplexerRule, registerRule, enabledRule}
 use Rattle.fact.specs.TwoRuns.{Claims, number, alike, nothing}
+use Rattle.fact.proofs.Zeros.{decides-up, decided-result}
 use Rattle.fact.proofs.Order.{join-left, join-right}
 
 pub claims-always : {n x y : ℕ} → Claims (Always n) x y → (x ≡ n) × (y ≡ n)
@@ -33,15 +36,42 @@ claims-narrow w number = number
 claims-narrow w alike = alike
 claims-narrow w nothing = nothing
 
+claims-plain : (op : operator.Operator) (w : ℕ) {x y : Fact} {a a′ b b′ : ℕ} → Claims x a a′ → Claims y b b′
+    → Claims (plainRule op w x y) (result op w a b) (result op w a′ b′)
+claims-plain op w number number = number
+claims-plain op w number alike = alike
+claims-plain op w number nothing = nothing
+claims-plain op w alike number = alike
+claims-plain op w alike alike = alike
+claims-plain op w alike nothing = nothing
+claims-plain op w nothing k = nothing
+
+-- a known zero is 0 in both runs
+claims-zero : {f : Fact} {x y : ℕ} → Claims f x y → T (knownZero f) → T (eqb x 0) × T (eqb y 0)
+claims-zero number t = (t, t)
+claims-zero alike t = absurd t
+claims-zero nothing t = absurd t
+
 pub claims-operator : (op : operator.Operator) (w : ℕ) {x y : Fact} {a a′ b b′ : ℕ} → Claims x a a′ → Claims y b b′
     → Claims (operatorRule op w x y) (result op w a b) (result op w a′ b′)
-claims-operator op w number number = number
-claims-operator op w number alike = alike
-claims-operator op w number nothing = nothing
-claims-operator op w alike number = alike
-claims-operator op w alike alike = alike
-claims-operator op w alike nothing = nothing
-claims-operator op w nothing k = nothing
+claims-operator op w {x} {y} {a} {a′} {b} {b′} h k =
+    cond-case (λ f. Claims f (result op w a b) (result op w a′ b′)) decides (λ e. rw (first e, second e) number)
+    (λ _. claims-plain op w h k)
+  where
+    decides : Bool
+    decides = zeroDecides op (knownZero x) (knownZero y)
+
+    zero : (a b : ℕ) → (T (knownZero x) → T (eqb a 0)) → (T (knownZero y) → T (eqb b 0)) → decides ≡ true
+        → result op w a b ≡ 0
+    zero a b f g e =
+        decided-result op w a b
+        (decides-up op (knownZero x) (knownZero y) (eqb a 0) (eqb b 0) f g (T-of decides e))
+
+    first : decides ≡ true → result op w a b ≡ 0
+    first = zero a b (λ z. claims-zero h z .0) (λ z. claims-zero k z .0)
+
+    second : decides ≡ true → result op w a′ b′ ≡ 0
+    second = zero a′ b′ (λ z. claims-zero h z .1) (λ z. claims-zero k z .1)
 
 -- ---- the choice of an arm
 

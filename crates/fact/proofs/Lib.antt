@@ -1,3 +1,4 @@
+pub mod Zeros
 pub mod Order
 pub mod Claims
 pub mod Certificate

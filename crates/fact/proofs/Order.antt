@@ -6,13 +6,15 @@ use mathlib.Core.Bool.{Bool, true, false, cond}
 use Prim.Native.Nat.{ℕ, _≤_, _<_, _^_}
 use native.Mathlib.Nat.{mod-mod}
 use borrow.Author.Tests.{eqb-true, eqb-false}
-use lib.Dec.{eqb, eqb-refl, lit<, lit≤}
+use lib.Dec.{T, eqb, eqb-refl, lit<, lit≤}
 use Rattle.net.proofs.Bools.{cond-case, of-T, true-false}
 use Rattle.circuit.specs.declared.operator.Operator as operator
 use Rattle.fact.specs.declared.Fact.{Fact}
 use Rattle.fact.specs.declared.Fact.the-variants.{Always, Open, Marked}
 use Rattle.fact.specs.Fact.{_⊑_, itself, always-open, always-marked, open-marked, same, join, narrow}
-use Rattle.fact.specs.Rule.{operatorRule, alwaysOrMarked, choose, multiplexerRule, registerRule, enable, enabledRule}
+use Rattle.fact.specs.Rule.{knownZero, zeroDecides, plainRule, operatorRule}
+use Rattle.fact.specs.Rule.{alwaysOrMarked, choose, multiplexerRule, registerRule, enable, enabledRule}
+use Rattle.fact.proofs.Zeros.{decides-up, decided-result}
 
 -- ---- the order
 
@@ -139,11 +141,11 @@ narrow-narrow w Marked = refl
 pub join-mono : {x x′ y y′ : Fact} → x ⊑ x′ → y ⊑ y′ → join x y ⊑ join x′ y′
 join-mono {x} {x′} {y} {y′} h k = join-least x y (⊑-trans h (join-left x′ y′)) (⊑-trans k (join-right x′ y′))
 
-pub operator-mono : (op : operator.Operator) (w : ℕ) {x x′ y y′ : Fact} → x ⊑ x′ → y ⊑ y′
-    → operatorRule op w x y ⊑ operatorRule op w x′ y′
-operator-mono op w {x} {x′} {y} {y′} h k = ⊑-trans (left y h) (right x′ k)
+plain-mono : (op : operator.Operator) (w : ℕ) {x x′ y y′ : Fact} → x ⊑ x′ → y ⊑ y′
+    → plainRule op w x y ⊑ plainRule op w x′ y′
+plain-mono op w {x} {x′} {y} {y′} h k = ⊑-trans (left y h) (right x′ k)
   where
-    left : (b : Fact) {a a′ : Fact} → a ⊑ a′ → operatorRule op w a b ⊑ operatorRule op w a′ b
+    left : (b : Fact) {a a′ : Fact} → a ⊑ a′ → plainRule op w a b ⊑ plainRule op w a′ b
     left b itself = itself
     left (Always n) always-open = always-open
     left Open always-open = itself
@@ -155,7 +157,7 @@ operator-mono op w {x} {x′} {y} {y′} h k = ⊑-trans (left y h) (right x′ 
     left Open open-marked = open-marked
     left Marked open-marked = itself
 
-    right : (a : Fact) {b b′ : Fact} → b ⊑ b′ → operatorRule op w a b ⊑ operatorRule op w a b′
+    right : (a : Fact) {b b′ : Fact} → b ⊑ b′ → plainRule op w a b ⊑ plainRule op w a b′
     right a itself = itself
     right (Always n) always-open = always-open
     right Open always-open = itself
@@ -166,6 +168,38 @@ operator-mono op w {x} {x′} {y} {y′} h k = ⊑-trans (left y h) (right x′ 
     right (Always n) open-marked = open-marked
     right Open open-marked = open-marked
     right Marked open-marked = itself
+
+-- below always 0 there is nothing but always 0
+zero-down : {x y : Fact} → x ⊑ y → T (knownZero y) → T (knownZero x)
+zero-down itself t = t
+zero-down always-open t = absurd t
+zero-down always-marked t = absurd t
+zero-down open-marked t = absurd t
+
+-- where a known zero decides, the plain rule gives always 0 or a fact above it
+decided-below : (op : operator.Operator) (w : ℕ) (x y : Fact) → T (zeroDecides op (knownZero x) (knownZero y))
+    → Always 0 ⊑ plainRule op w x y
+decided-below op w (Always a) (Always b) t = ⊑-of-eq (ap Always (sym (decided-result op w a b t)))
+decided-below op w (Always a) Open t = always-open
+decided-below op w (Always a) Marked t = always-marked
+decided-below op w Open (Always b) t = always-open
+decided-below op w Open Open t = always-open
+decided-below op w Open Marked t = always-marked
+decided-below op w Marked y t = always-marked
+
+-- a choice is monotone where z, chosen above, is chosen below too, and lies below what it stands in the place of
+cond-falls : (t t′ : Bool) {z x y : Fact} → (T t′ → T t) → (T t → z ⊑ x) → x ⊑ y → cond t z x ⊑ cond t′ z y
+cond-falls true true falls below h = itself
+cond-falls true false falls below h = ⊑-trans (below tt) h
+cond-falls false true falls below h = absurd (falls tt)
+cond-falls false false falls below h = h
+
+pub operator-mono : (op : operator.Operator) (w : ℕ) {x x′ y y′ : Fact} → x ⊑ x′ → y ⊑ y′
+    → operatorRule op w x y ⊑ operatorRule op w x′ y′
+operator-mono op w {x} {x′} {y} {y′} h k =
+    cond-falls (zeroDecides op (knownZero x) (knownZero y)) (zeroDecides op (knownZero x′) (knownZero y′))
+    (decides-up op (knownZero x′) (knownZero y′) (knownZero x) (knownZero y) (zero-down h) (zero-down k))
+    (decided-below op w x y) (plain-mono op w h k)
 
 pub alwaysOrMarked-above : (x : Fact) → x ⊑ alwaysOrMarked x
 alwaysOrMarked-above (Always n) = itself

@@ -1,5 +1,5 @@
 -- Cases of the requests, from bytes, beside document 01's A to J. Request S-2: registers with an enable. Request S-3:
--- fixed inputs that hold 0 until poked.
+-- fixed inputs that hold 0 until poked. Request S-7: known zeros that decide an operator.
 -- Assumes nothing.
 use mathlib.Core.Bool.{true, false}
 use mathlib.Core.List.{List, [], _∷_}
@@ -198,6 +198,144 @@ caseFixed =
           ∷ [];
     }
 
+-- an operator of width 8, by its code, A and B
+abbrev operator8 : ℕ → ℕ → ℕ → List ℕ
+operator8 code a b = 2 ∷ 8 ∷ code ∷ 0 ∷ a ∷ 0 ∷ b ∷ 0 ∷ 0 ∷ 0 ∷ 0 ∷ 0 ∷ 0 ∷ 0 ∷ 0 ∷ 0 ∷ []
+
+-- a secret input (0), a free one (1), one tied to 0 (2) and the constant 0 (3), all of width 8, and operators of them
+abbrev operatorsOfZeros : List (List ℕ) → List (List ℕ)
+operatorsOfZeros operators =
+    (0 ∷ 8 ∷ 2 ∷ 0 ∷ 0 ∷ 0 ∷ 0 ∷ 0 ∷ 0 ∷ 0 ∷ 0 ∷ 0 ∷ 0 ∷ 0 ∷ 0 ∷ 0 ∷ [])
+    ∷ (0 ∷ 8 ∷ 1 ∷ 0 ∷ 0 ∷ 0 ∷ 0 ∷ 0 ∷ 0 ∷ 0 ∷ 0 ∷ 0 ∷ 0 ∷ 0 ∷ 0 ∷ 0 ∷ [])
+    ∷ (0 ∷ 8 ∷ 0 ∷ 0 ∷ 0 ∷ 0 ∷ 0 ∷ 0 ∷ 0 ∷ 0 ∷ 0 ∷ 0 ∷ 0 ∷ 0 ∷ 0 ∷ 0 ∷ [])
+    ∷ (1 ∷ 8 ∷ 0 ∷ 0 ∷ 0 ∷ 0 ∷ 0 ∷ 0 ∷ 0 ∷ 0 ∷ 0 ∷ 0 ∷ 0 ∷ 0 ∷ 0 ∷ 0 ∷ [])
+    ∷ operators
+
+-- an and with a known zero on either side, the other operand secret or free
+abbrev pub caseZeroAnd : Case
+caseZeroAnd =
+    record {
+      records = operatorsOfZeros (operator8 2 0 2 ∷ operator8 2 3 0 ∷ operator8 2 1 3 ∷ operator8 2 2 1 ∷ []);
+      rounds = 0;
+      bound-met = true;
+      variables = 4 ∷ 5 ∷ 6 ∷ 7 ∷ [];
+      facts = Always 0 ∷ Always 0 ∷ Always 0 ∷ Always 0 ∷ [];
+    }
+
+-- a known zero shifted either way, by a secret amount (4, 5) and by a free one (6, 7); the other way round, shifted by
+-- a known zero, the secret (8, 9) and the free input (10, 11) stay what they are
+abbrev pub caseZeroShift : Case
+caseZeroShift =
+    record {
+      records =
+          operatorsOfZeros
+          (operator8 7 3 0
+          ∷ operator8 8 3 0
+          ∷ operator8 7 2 1
+          ∷ operator8 8 2 1
+          ∷ operator8 7 0 3
+          ∷ operator8 8 0 3
+          ∷ operator8 7 1 2
+          ∷ operator8 8 1 2
+          ∷ []);
+      rounds = 0;
+      bound-met = true;
+      variables = 4 ∷ 5 ∷ 6 ∷ 7 ∷ 8 ∷ 9 ∷ 10 ∷ 11 ∷ [];
+      facts = Always 0 ∷ Always 0 ∷ Always 0 ∷ Always 0 ∷ Marked ∷ Marked ∷ Open ∷ Open ∷ [];
+    }
+
+-- nothing is less than a known zero (4, 5); the other way round is not decided (6, 7)
+abbrev pub caseZeroLess : Case
+caseZeroLess =
+    record {
+      records = operatorsOfZeros (operator8 6 0 3 ∷ operator8 6 1 2 ∷ operator8 6 3 0 ∷ operator8 6 2 1 ∷ []);
+      rounds = 0;
+      bound-met = true;
+      variables = 4 ∷ 5 ∷ 6 ∷ 7 ∷ [];
+      facts = Always 0 ∷ Always 0 ∷ Marked ∷ Open ∷ [];
+    }
+
+-- the other operators of the secret and a known zero, either way round: add, subtract, or, xor and equal
+abbrev pub caseZeroElsewhere : Case
+caseZeroElsewhere =
+    record {
+      records =
+          operatorsOfZeros
+          (operator8 0 0 3
+          ∷ operator8 0 3 0
+          ∷ operator8 1 0 3
+          ∷ operator8 1 3 0
+          ∷ operator8 3 0 3
+          ∷ operator8 3 3 0
+          ∷ operator8 4 0 3
+          ∷ operator8 4 3 0
+          ∷ operator8 5 0 3
+          ∷ operator8 5 3 0
+          ∷ []);
+      rounds = 0;
+      bound-met = true;
+      variables = 4 ∷ 5 ∷ 6 ∷ 7 ∷ 8 ∷ 9 ∷ 10 ∷ 11 ∷ 12 ∷ 13 ∷ [];
+      facts =
+          Marked ∷ Marked ∷ Marked ∷ Marked ∷ Marked ∷ Marked ∷ Marked ∷ Marked ∷ Marked ∷ Marked ∷ [];
+    }
+
+-- what is no zero decides nothing: a secret input (0) with the constants 255 (1), in an or (4); 32 (2), in a shift (5);
+-- and 256 (3), which is 0 at the width of the and (6)
+abbrev pub caseNoZero : Case
+caseNoZero =
+    record {
+      records =
+          (0 ∷ 8 ∷ 2 ∷ 0 ∷ 0 ∷ 0 ∷ 0 ∷ 0 ∷ 0 ∷ 0 ∷ 0 ∷ 0 ∷ 0 ∷ 0 ∷ 0 ∷ 0 ∷ [])
+          ∷ (1 ∷ 8 ∷ 0 ∷ 0 ∷ 0 ∷ 0 ∷ 0 ∷ 0 ∷ 0 ∷ 0 ∷ 0 ∷ 0 ∷ 255 ∷ 0 ∷ 0 ∷ 0 ∷ [])
+          ∷ (1 ∷ 8 ∷ 0 ∷ 0 ∷ 0 ∷ 0 ∷ 0 ∷ 0 ∷ 0 ∷ 0 ∷ 0 ∷ 0 ∷ 32 ∷ 0 ∷ 0 ∷ 0 ∷ [])
+          ∷ (1 ∷ 16 ∷ 0 ∷ 0 ∷ 0 ∷ 0 ∷ 0 ∷ 0 ∷ 0 ∷ 0 ∷ 0 ∷ 0 ∷ 0 ∷ 1 ∷ 0 ∷ 0 ∷ [])
+          ∷ operator8 3 0 1
+          ∷ operator8 7 0 2
+          ∷ operator8 2 0 3
+          ∷ [];
+      rounds = 0;
+      bound-met = true;
+      variables = 4 ∷ 5 ∷ 6 ∷ [];
+      facts = Marked ∷ Marked ∷ Marked ∷ [];
+    }
+
+-- a secret bus (0) and an enable tied to 0 (1): the gated bus (2) is always 0, and so is the register that takes it (3).
+-- A register (4) that is its own gate (5) stays 0 too
+abbrev pub caseGatedBus : Case
+caseGatedBus =
+    record {
+      records =
+          (0 ∷ 8 ∷ 2 ∷ 0 ∷ 0 ∷ 0 ∷ 0 ∷ 0 ∷ 0 ∷ 0 ∷ 0 ∷ 0 ∷ 0 ∷ 0 ∷ 0 ∷ 0 ∷ [])
+          ∷ (0 ∷ 8 ∷ 0 ∷ 0 ∷ 0 ∷ 0 ∷ 0 ∷ 0 ∷ 0 ∷ 0 ∷ 0 ∷ 0 ∷ 0 ∷ 0 ∷ 0 ∷ 0 ∷ [])
+          ∷ operator8 2 0 1
+          ∷ (4 ∷ 8 ∷ 0 ∷ 0 ∷ 2 ∷ 0 ∷ 0 ∷ 0 ∷ 0 ∷ 0 ∷ 0 ∷ 0 ∷ 0 ∷ 0 ∷ 0 ∷ 0 ∷ [])
+          ∷ (4 ∷ 8 ∷ 0 ∷ 0 ∷ 5 ∷ 0 ∷ 0 ∷ 0 ∷ 0 ∷ 0 ∷ 0 ∷ 0 ∷ 0 ∷ 0 ∷ 0 ∷ 0 ∷ [])
+          ∷ operator8 2 0 4
+          ∷ [];
+      rounds = 0;
+      bound-met = false;
+      variables = 2 ∷ 3 ∷ 4 ∷ 5 ∷ [];
+      facts = Always 0 ∷ Always 0 ∷ Always 0 ∷ Always 0 ∷ [];
+    }
+
+-- a gate (2) that is always 0 before any round, and open after the first, as it takes the constant 1 (1): the gated
+-- bus (3) is marked from then on, and the register that takes it (4) after the second
+abbrev pub caseGateOpens : Case
+caseGateOpens =
+    record {
+      records =
+          (0 ∷ 8 ∷ 2 ∷ 0 ∷ 0 ∷ 0 ∷ 0 ∷ 0 ∷ 0 ∷ 0 ∷ 0 ∷ 0 ∷ 0 ∷ 0 ∷ 0 ∷ 0 ∷ [])
+          ∷ (1 ∷ 8 ∷ 0 ∷ 0 ∷ 0 ∷ 0 ∷ 0 ∷ 0 ∷ 0 ∷ 0 ∷ 0 ∷ 0 ∷ 1 ∷ 0 ∷ 0 ∷ 0 ∷ [])
+          ∷ (4 ∷ 8 ∷ 0 ∷ 0 ∷ 1 ∷ 0 ∷ 0 ∷ 0 ∷ 0 ∷ 0 ∷ 0 ∷ 0 ∷ 0 ∷ 0 ∷ 0 ∷ 0 ∷ [])
+          ∷ operator8 2 0 2
+          ∷ (4 ∷ 8 ∷ 0 ∷ 0 ∷ 3 ∷ 0 ∷ 0 ∷ 0 ∷ 0 ∷ 0 ∷ 0 ∷ 0 ∷ 0 ∷ 0 ∷ 0 ∷ 0 ∷ [])
+          ∷ [];
+      rounds = 2;
+      bound-met = false;
+      variables = 2 ∷ 3 ∷ 4 ∷ [];
+      facts = Open ∷ Marked ∷ Marked ∷ [];
+    }
+
 abbrev pub requestCases : List Case
 requestCases =
     caseEnableZero
@@ -211,4 +349,11 @@ requestCases =
     ∷ caseCounter
     ∷ caseEnableBound
     ∷ caseFixed
+    ∷ caseZeroAnd
+    ∷ caseZeroShift
+    ∷ caseZeroLess
+    ∷ caseZeroElsewhere
+    ∷ caseNoZero
+    ∷ caseGatedBus
+    ∷ caseGateOpens
     ∷ []

@@ -1,9 +1,10 @@
 -- The rule of each kind of record, as a function of its operands' facts, and the rule of a circuit over a store.
 -- Assumes nothing.
-use mathlib.Core.Bool.{cond}
+use mathlib.Core.Bool.{Bool, false, cond, _||_}
 use Prim.Native.Nat.{ℕ}
 use lib.Dec.{eqb}
 use Rattle.circuit.specs.declared.operator.Operator as operator
+use Rattle.circuit.specs.declared.operator.Operator.the-variants.{Add, Sub, And, Or, Xor, Equal, Less, ShiftLeft, ShiftRight}
 use Rattle.circuit.specs.declared.record.InputKind.{InputKind}
 use Rattle.circuit.specs.declared.record.InputKind.the-variants.{Fixed, Free, Secret}
 use Rattle.circuit.specs.declared.record.Record.{Record}
@@ -21,15 +22,38 @@ inputRule (Fixed n) = cond (eqb n 0) (Always 0) Open
 inputRule Free = Open
 inputRule Secret = Marked
 
--- both operands always, then always their result; else marked if an operand is marked; else open
+-- whether a fact is always 0
+abbrev pub knownZero : Fact → Bool
+knownZero (Always n) = eqb n 0
+knownZero Open = false
+knownZero Marked = false
+
+-- whether a known zero decides the operator, by whether A is one and whether B is (request S-7): of an and, either; of
+-- less, B; of a shift, A, which is what is shifted
+abbrev pub zeroDecides : operator.Operator → Bool → Bool → Bool
+zeroDecides Add a b = false
+zeroDecides Sub a b = false
+zeroDecides And a b = a || b
+zeroDecides Or a b = false
+zeroDecides Xor a b = false
+zeroDecides Equal a b = false
+zeroDecides Less a b = b
+zeroDecides ShiftLeft a b = a
+zeroDecides ShiftRight a b = a
+
+-- document 01's rule: both operands always, then always their result; else marked if an operand is marked; else open
+abbrev pub plainRule : operator.Operator → ℕ → Fact → Fact → Fact
+plainRule op w (Always a) (Always b) = Always (result op w a b)
+plainRule op w (Always a) Open = Open
+plainRule op w (Always a) Marked = Marked
+plainRule op w Open (Always b) = Open
+plainRule op w Open Open = Open
+plainRule op w Open Marked = Marked
+plainRule op w Marked g = Marked
+
+-- always 0 where a known zero decides, whatever the other operand is; else the plain rule
 abbrev pub operatorRule : operator.Operator → ℕ → Fact → Fact → Fact
-operatorRule op w (Always a) (Always b) = Always (result op w a b)
-operatorRule op w (Always a) Open = Open
-operatorRule op w (Always a) Marked = Marked
-operatorRule op w Open (Always b) = Open
-operatorRule op w Open Open = Open
-operatorRule op w Open Marked = Marked
-operatorRule op w Marked g = Marked
+operatorRule op w a b = cond (zeroDecides op (knownZero a) (knownZero b)) (Always 0) (plainRule op w a b)
 
 -- the fact if it is always, else marked
 abbrev pub alwaysOrMarked : Fact → Fact

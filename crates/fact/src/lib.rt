@@ -3,7 +3,10 @@
 pub mod cell;
 
 ghost use mathlib.Core.Path.{_≡_};
+ghost use mathlib.Core.Bool.{false};
 ghost use Prim.Native.Nat.{_≤_};
+ghost use lib.Dec.{eqb};
+ghost use Rattle.circuit.specs.Operator.{result};
 ghost use Rattle.circuit.specs.Powers.{Powers};
 ghost use Rattle.fact.specs.Fact as facts;
 ghost use Rattle.fact.specs.Rule as rules;
@@ -81,7 +84,54 @@ pub fn input_rule(kind: InputKind) -> Fact
     }
 }
 
-// An operator's rule, on the facts of A and B.
+// An operator's result at width w, whose power is in the table.
+fn operator_result(op: Operator, w: u8, a: u32, b: u32, powers: &PowerTable) -> u32
+    requires { ⌜ w ≤ 32 ⌝ }
+    requires { ⌜ Powers (now powers) ⌝ }
+    ensures { λ r. ⌜ r ≡ result op w a b ⌝ }
+{
+    evaluate(operator_code(op), w, a, b, power_in(powers, w))
+}
+
+// Whether a known zero decides the operator, by whether A is one and whether B is.
+fn zero_decides(op: Operator, a: bool, b: bool) -> bool
+    ensures { λ r. ⌜ r ≡ rules.zeroDecides op a b ⌝ }
+{
+    match op {
+        Operator::Add => false,
+        Operator::Sub => false,
+        Operator::And => if a { true } else { b },
+        Operator::Or => false,
+        Operator::Xor => false,
+        Operator::Equal => false,
+        Operator::Less => b,
+        Operator::ShiftLeft => a,
+        Operator::ShiftRight => a,
+    }
+}
+
+// The same where A is always a number, and B is not.
+fn a_decides(op: Operator, a: u32) -> bool
+    ensures { λ r. ⌜ r ≡ rules.zeroDecides op (eqb a 0) false ⌝ }
+{
+    if a != 0 {
+        return false;
+    }
+    zero_decides(op, true, false)
+}
+
+// The same where B is always a number, and A is not.
+fn b_decides(op: Operator, b: u32) -> bool
+    ensures { λ r. ⌜ r ≡ rules.zeroDecides op false (eqb b 0) ⌝ }
+{
+    if b != 0 {
+        return false;
+    }
+    zero_decides(op, false, true)
+}
+
+// An operator's rule, on the facts of A and B. Of two numbers it is always their result, which is 0 where a zero
+// decides.
 pub fn operator_rule(op: Operator, w: u8, a: Fact, b: Fact, powers: &PowerTable) -> Fact
     requires { ⌜ w ≤ 32 ⌝ }
     requires { ⌜ Powers (now powers) ⌝ }
@@ -89,22 +139,36 @@ pub fn operator_rule(op: Operator, w: u8, a: Fact, b: Fact, powers: &PowerTable)
 {
     match a {
         Fact::Always(x) => match b {
-            Fact::Always(y) => Fact::Always(evaluate(
-                operator_code(op),
-                w,
-                x,
-                y,
-                power_in(powers, w),
-            )),
-            Fact::Open => Fact::Open,
-            Fact::Marked => Fact::MARKED,
+            Fact::Always(y) => Fact::Always(operator_result(op, w, x, y, powers)),
+            Fact::Open => if a_decides(op, x) {
+                Fact::Always(0)
+            } else {
+                Fact::Open
+            },
+            Fact::Marked => if a_decides(op, x) {
+                Fact::Always(0)
+            } else {
+                Fact::MARKED
+            },
         },
         Fact::Open => match b {
-            Fact::Always(_) => Fact::Open,
+            Fact::Always(y) => if b_decides(op, y) {
+                Fact::Always(0)
+            } else {
+                Fact::Open
+            },
             Fact::Open => Fact::Open,
             Fact::Marked => Fact::MARKED,
         },
-        Fact::Marked => Fact::MARKED,
+        Fact::Marked => match b {
+            Fact::Always(y) => if b_decides(op, y) {
+                Fact::Always(0)
+            } else {
+                Fact::MARKED
+            },
+            Fact::Open => Fact::MARKED,
+            Fact::Marked => Fact::MARKED,
+        },
     }
 }
 

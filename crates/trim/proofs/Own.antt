@@ -19,7 +19,8 @@ use Rattle.circuit.proofs.Records.{encode-width}
 use Rattle.fact.specs.declared.Fact.{Fact}
 use Rattle.fact.specs.declared.Fact.the-variants.{Always, Open, Marked}
 use Rattle.fact.specs.Fact.{join, narrow}
-use Rattle.fact.specs.Rule.{inputRule, operatorRule, alwaysOrMarked, choose, enable, ruleOf, rule}
+use Rattle.fact.specs.Rule.{inputRule, knownZero, zeroDecides, plainRule, operatorRule}
+use Rattle.fact.specs.Rule.{alwaysOrMarked, choose, enable, ruleOf, rule}
 use Rattle.fact.specs.Certificate.{certificate}
 use Rattle.fact.proofs.Certificate.{certificate-fixpoint}
 use Rattle.trim.specs.Ready.{FactFits}
@@ -33,14 +34,18 @@ module _ (w : ℕ) where
   input-fits Free = tt
   input-fits Secret = tt
 
+  plain-fits : (op : operator.Operator) (f g : Fact) → FactFits w (plainRule op w f g)
+  plain-fits op (Always a) (Always b) = result-below op w a b
+  plain-fits op (Always a) Open = tt
+  plain-fits op (Always a) Marked = tt
+  plain-fits op Open (Always b) = tt
+  plain-fits op Open Open = tt
+  plain-fits op Open Marked = tt
+  plain-fits op Marked g = tt
+
   operator-fits : (op : operator.Operator) (f g : Fact) → FactFits w (operatorRule op w f g)
-  operator-fits op (Always a) (Always b) = result-below op w a b
-  operator-fits op (Always a) Open = tt
-  operator-fits op (Always a) Marked = tt
-  operator-fits op Open (Always b) = tt
-  operator-fits op Open Open = tt
-  operator-fits op Open Marked = tt
-  operator-fits op Marked g = tt
+  operator-fits op f g =
+      cond-case (FactFits w) (zeroDecides op (knownZero f) (knownZero g)) (λ _. pow-pos w) (λ _. plain-fits op f g)
 
   narrow-fits : (f : Fact) → FactFits w (narrow w f)
   narrow-fits (Always n) = mod-lt n (pow-pos w)

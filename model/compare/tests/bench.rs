@@ -5,9 +5,6 @@
 mod common;
 mod lent;
 
-use common::document_cases::document_cases;
-use common::enable_cases::enable_cases;
-use common::fixed_cases::fixed_cases;
 use common::fixed_pokes::FixedPokes;
 use common::grounds::{
     bench_grounds, list_that_meets, sound_stimuli, stimulus_that_meets_only, table_that_meets,
@@ -20,8 +17,8 @@ use common::samples::{
 use common::shapes::{chain, layers, random_pair, register_chain, register_ring, turned};
 use common::tables::{damage, pokes_of_fixed, random_stimuli, random_table};
 use common::{
-    cases, enabled, fixed, free, operator, poke_bytes, register, secret, widened, Random, RecordBytes,
-    Table, MOST_RECORDS, MOST_STIMULI, TICK,
+    cases, enabled, fixed, free, hand_cases, operator, poke_bytes, register, secret, widened, Random,
+    RecordBytes, Table, MOST_RECORDS, MOST_STIMULI, TICK,
 };
 use lent::answers::random_calls;
 use lent::{held_to_model, Buffers, Inputs, Lengths};
@@ -87,7 +84,7 @@ fn compare_on_some_lists(table: &[u8]) {
 
 #[test]
 fn cases_worked_by_hand() {
-    for case in document_cases().into_iter().chain(enable_cases()).chain(fixed_cases()) {
+    for case in hand_cases() {
         println!("case {}", case.name);
         compare_on_some_lists(&case.table);
     }

@@ -5,14 +5,11 @@
 mod common;
 mod lent;
 
-use common::document_cases::document_cases;
-use common::enable_cases::enable_cases;
-use common::fixed_cases::fixed_cases;
 use common::grounds::table_that_meets;
 use common::samples::{every_rule, one_of_each, samples, ENABLED, REGISTER};
-use common::shapes::{chain, layers, random_shape, register_chain, register_ring, turned};
+use common::shapes::{chain, gates, layers, random_shape, register_chain, register_ring, turned};
 use common::tables::{damage, random_table};
-use common::{cases, constant, enabled, fixed, register, Random, MOST_RECORDS};
+use common::{cases, constant, enabled, fixed, hand_cases, register, Random, MOST_RECORDS};
 use lent::answers::random_calls;
 use lent::{held_to_model, Buffers, Inputs, Lengths};
 use model::{remainder, Refusal};
@@ -49,7 +46,7 @@ fn compare_on_all_lengths(table: &[u8]) {
 
 #[test]
 fn cases_worked_by_hand() {
-    for case in document_cases().into_iter().chain(enable_cases()).chain(fixed_cases()) {
+    for case in hand_cases() {
         println!("case {}", case.name);
         compare_on_all_lengths(&case.table);
     }
@@ -157,7 +154,7 @@ fn medium_tables() {
 fn largest_tables() {
     let mut random = Random::of_test("largest tables", 24);
     let n = usize::from(MOST_RECORDS);
-    for shape in [layers, chain, register_chain] {
+    for shape in [layers, chain, register_chain, gates] {
         let table = shape(&mut random, n);
         assert!(certify(table.as_flattened()).is_ok());
         assert!(certify(turned(&table).as_flattened()).is_ok());

@@ -5,14 +5,11 @@
 mod common;
 mod programs;
 
-use common::document_cases::document_cases;
-use common::enable_cases::enable_cases;
-use common::fixed_cases::fixed_cases;
 use common::printed::printed_certificate;
 use common::samples::samples;
 use common::shapes::{chain, random_shape, register_ring};
 use common::tables::damage;
-use common::{cases, certify_longer, Random, MOST_RECORDS};
+use common::{cases, certify_longer, hand_cases, Random, MOST_RECORDS};
 use model::certify;
 use programs::{assert_complains, assert_prints, run, Printed, TABLES_AROUND_THE_LONGEST};
 
@@ -51,7 +48,7 @@ fn assert_writes_certificate(table: &[u8], printed: &str) {
 
 #[test]
 fn cases_worked_by_hand() {
-    for case in document_cases().into_iter().chain(enable_cases()).chain(fixed_cases()) {
+    for case in hand_cases() {
         assert_eq!(output(&case.table), case.printed, "case {}", case.name);
         assert_writes_certificate(&case.table, case.printed);
     }

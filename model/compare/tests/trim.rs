@@ -5,12 +5,9 @@
 mod common;
 mod lent;
 
-use common::document_cases::document_cases;
-use common::enable_cases::enable_cases;
-use common::fixed_cases::fixed_cases;
 use common::grounds::{CertificateFault, TrimFaults, TRIM_GROUNDS};
 use common::samples::{every_rule, one_of_each, samples, ENABLED, REGISTER};
-use common::shapes::{chain, layers, random_shape, register_chain, register_ring, turned};
+use common::shapes::{chain, gates, layers, random_shape, register_chain, register_ring, turned};
 use common::tables::random_table;
 use common::trim_cases::trim_cases;
 use common::trims::{
@@ -18,8 +15,8 @@ use common::trims::{
     some_certificate, Given,
 };
 use common::{
-    cases, constant, enabled, fixed, free, multiplexer, operator, register, secret, Random, Table,
-    MOST_RECORDS,
+    cases, constant, enabled, fixed, free, hand_cases, multiplexer, operator, register, secret, Random,
+    Table, MOST_RECORDS,
 };
 use compare::as_packed;
 use lent::answers::random_calls;
@@ -117,7 +114,7 @@ fn compare_on_some_lists(table: &[u8]) {
 
 #[test]
 fn cases_worked_by_hand() {
-    for case in document_cases().into_iter().chain(enable_cases()).chain(fixed_cases()) {
+    for case in hand_cases() {
         println!("case {}", case.name);
         compare_on_some_lists(&case.table);
     }
@@ -392,7 +389,7 @@ fn largest_tables() {
     let mut random = Random::of_test("largest trimmed tables", 97);
     let n = usize::from(MOST_RECORDS);
     let loopless = |random: &mut Random, n| random_table(random, n, false);
-    for shape in [layers, chain, register_chain, register_ring, loopless] {
+    for shape in [layers, chain, register_chain, register_ring, gates, loopless] {
         let table = shape(&mut random, n);
         for table in [turned(&table), table] {
             let records = read_records(table.as_flattened()).unwrap();

@@ -2,11 +2,12 @@
 //! the two calls of document 01 made on buffers whose contents are checked afterwards by its clauses.
 //! Random tables and lists come from `tables`, and tables of one shape from `shapes`; document 01's cases
 //! are in `document_cases`, those of registers with an enable in `enable_cases`, those of fixed inputs in
-//! `fixed_cases`, further tables in `samples`, what meets a set of grounds in `grounds`, and bench runs in
-//! `hand_runs`. `orders` has orders and the call for a bill, `trims` the trimming call and what is given to it,
-//! `trim_cases` tables trimmed by hand, and `printed` the lines that the programs print. `two_runs` tries
-//! demand 3 on any two calls, `trimmed_runs` the claim of request S-5 on any three. `times` counts how often
-//! something occurs, and `fixed_pokes` how often lists poke fixed inputs early, late, twice or not at all.
+//! `fixed_cases`, those of known zeros in `zero_cases`, further tables in `samples`, what meets a set of
+//! grounds in `grounds`, and bench runs in `hand_runs`. `orders` has orders and the call for a bill, `trims`
+//! the trimming call and what is given to it, `trim_cases` tables trimmed by hand, and `printed` the lines that
+//! the programs print. `two_runs` tries demand 3 on any two calls, `trimmed_runs` the claim of request S-5 on
+//! any three. `times` counts how often something occurs, and `fixed_pokes` how often lists poke fixed inputs
+//! early, late, twice or not at all.
 
 #![allow(dead_code)] // each test file uses a part
 
@@ -26,8 +27,19 @@ pub mod trim_cases;
 pub mod trimmed_runs;
 pub mod trims;
 pub mod two_runs;
+pub mod zero_cases;
 
+use document_cases::{document_cases, Case};
+use enable_cases::enable_cases;
+use fixed_cases::fixed_cases;
 use model::{bench, certify, is_loop, Fact, Operator, Refusal};
+use zero_cases::zero_cases;
+
+/// Every table worked by hand: document 01's cases and those of the requests.
+pub fn hand_cases() -> impl Iterator<Item = Case> {
+    let requests = [enable_cases(), fixed_cases(), zero_cases()];
+    document_cases().into_iter().chain(requests.into_iter().flatten())
+}
 
 /// The 16 bytes of a record.
 pub type RecordBytes = [u8; 16];

@@ -1,13 +1,14 @@
-//! Random tables of given shapes, without a loop: layers, deep chains of wires, chains of registers, and the
-//! ring of registers that takes the most rounds. Each is made with its uses pointing back, but for some of
-//! a register's, and can then be put in another order. In all of them some registers have an enable.
+//! Random tables of given shapes, without a loop: layers, deep chains of wires, chains of registers, the ring
+//! of registers that takes the most rounds, and gates, which zeros shut. Each is made with its uses pointing
+//! back, but for some of a register's, and can then be put in another order. In all of them some registers
+//! have an enable.
 
 use super::tables::{
     random_kind, random_record, random_stimuli, random_table, random_use, random_width, renumbered,
     Mixture, MIXTURES, WIDTHS,
 };
 use super::{constant, enabled, multiplexer, register, secret, Random, RecordBytes, Table};
-use model::{read_records, Kind};
+use model::{read_records, Kind, Operator, Record};
 use std::ops::Range;
 
 /// The kinds of a chain of wires, of which few are inputs or constants, with a register here and there.
@@ -15,6 +16,12 @@ const WIRES: Mixture = [1, 1, 30, 30, 1, 1];
 
 /// The kinds of a chain of registers, with a wire here and there.
 const REGISTERS: Mixture = [0, 0, 1, 1, 6, 4];
+
+/// The kinds of gates, which are operators, and of what they gate and are shut by.
+const GATES: Mixture = [4, 2, 6, 0, 4, 1];
+
+/// The operators that a known zero can decide.
+const DECIDED: [Operator; 4] = [Operator::And, Operator::Less, Operator::ShiftLeft, Operator::ShiftRight];
 
 /// The kinds of a record that has nothing to use: inputs, and constants.
 const WITHOUT_USES: Mixture = [2, 1, 0, 0, 0, 0];
@@ -25,12 +32,13 @@ const LEAST_RING: usize = 4;
 /// A random table of n records, or a few more where they are too few, of a random shape and in one of three
 /// orders. With `loops` some have one.
 pub fn random_shape(random: &mut Random, n: usize, loops: bool) -> Table {
-    let mut table = match random.below(5) {
+    let mut table = match random.below(6) {
         0 => random_table(random, n, loops),
         1 => layers(random, n),
         2 => chain(random, n),
         3 => register_chain(random, n),
-        _ => register_ring(random, n),
+        4 => register_ring(random, n),
+        _ => gates(random, n),
     };
     if loops && random.percent(10) {
         rewire(random, &mut table);
@@ -42,6 +50,12 @@ pub fn random_shape(random: &mut Random, n: usize, loops: bool) -> Table {
 pub fn table_or_shape(random: &mut Random, n: usize) -> Table {
     let make = if random.percent(50) { random_table } else { random_shape };
     make(random, n, false)
+}
+
+/// The records of a random table of up to 40 of them, without a loop.
+pub fn random_records(random: &mut Random) -> Vec<Record> {
+    let n = 1 + random.below(40);
+    read_records(table_or_shape(random, n).as_flattened()).unwrap()
 }
 
 /// A random table of n records of a random shape, some with a loop, and a list of so many stimuli for it.
@@ -73,6 +87,20 @@ pub fn register_chain(random: &mut Random, n: usize) -> Table {
     for record in table.iter_mut().filter(|record| kind_of(record).is_register()) {
         if random.percent(97) {
             record[12..].fill(0);
+        }
+    }
+    table
+}
+
+/// Gates: most operators are of those that a known zero decides, and most numbers are 0.
+pub fn gates(random: &mut Random, n: usize) -> Table {
+    let mut table = shaped(random, n, &GATES, |i| i.saturating_sub(12)..i);
+    for record in &mut table {
+        match kind_of(record) {
+            Kind::Operator if random.percent(80) => record[2] = random.pick(&DECIDED).code(),
+            Kind::Operator => {}
+            _ if random.percent(80) => record[12..].fill(0),
+            _ => {}
         }
     }
     table
