@@ -1,5 +1,5 @@
-/* Certificates over lambda-C tables, the bench beside them, tables trimmed by their certificates, and the bill of an
- * order, as a static library (rt staticlib capi writes target/staticlib/libcapi.a).
+/* Certificates over lambda-C tables, the bench beside them, tables trimmed by their certificates, the path that a
+ * secret takes, and the bill of an order, as a static library (rt staticlib capi writes target/staticlib/libcapi.a).
  *
  * A call reads its table with what is given beside it, or its sizes, and writes to the buffers that it is lent; no two
  * of the buffers may overlap, and no pointer may be null, not even that of a buffer of length 0. Lengths count
@@ -60,6 +60,19 @@ uint64_t lambdac_bench(const uint8_t *table, size_t table_len, const uint8_t *st
 uint64_t lambdac_trim(const uint8_t *table, size_t table_len, const uint8_t *certificate, size_t certificate_len,
                       const uint16_t *kept, size_t kept_len, uint8_t *trimmed, size_t trimmed_len, uint16_t *numbers,
                       size_t numbers_len, uint16_t *scratch, size_t scratch_len);
+
+/* Shows how a secret reaches a marked variable of a table of 16-byte records: the shortest row of marked variables from
+ * it to a secret input, both in the row, each a use of the one before; a secret input's own row is itself. It certifies
+ * the table itself. A record uses what it names, the data and the enable of a register among them, but for a
+ * multiplexer whose control is always a number: the arm that it passes over is not a use. Every other such row has at
+ * least as many variables; of equals it is the one with the lowest number where they first differ. Every marked
+ * variable has one. Asks for one 16-bit number of row and eight of scratch a record. Returns the row's length, at least
+ * 1, where the table and the variable are accepted, and the first numbers of row are then the row; what lies past them
+ * is unchanged. Else ground * 2^32 + place: after grounds 1 to 11 23 for a variable that is not marked or not in the
+ * table, its place the number given. A refusal changes no number of row. For ground 11 the place is the length of the
+ * loop that stands at the front of the scratch. */
+uint64_t lambdac_path(const uint8_t *table, size_t table_len, uint32_t variable, uint16_t *row, size_t row_len,
+                      uint16_t *scratch, size_t scratch_len);
 
 /* Bills an order of sizes, each the number of a table's records that are no inputs: of the connections of the whole
  * order the first 100 cost 40 cents each, the next 100 cost 30, all further ones 20. Asks for one 32-bit number of

@@ -1,11 +1,12 @@
 //! The calls made on equal buffers: every variant's answer and buffers are those of the archive's call.
 
 use crate::common::noise;
+use crate::common::paths::{random_traced, random_variable};
 use crate::common::shapes::random_pair;
 use crate::common::tables::damage;
 use crate::common::trims::{damage_kept, random_given, Given};
 use crate::common::Random;
-use crate::{bench, certify, trim, Bench, Certify, Trim, BENCH, CERTIFY, TRIM};
+use crate::{bench, certify, path, trim, Bench, Certify, Path, Trim, BENCH, CERTIFY, PATH, TRIM};
 use model::Refusal;
 use std::fmt::Debug;
 
@@ -41,6 +42,12 @@ fn compare_random(random: &mut Random) {
     let _ = benched(&table, &stimuli, longer);
     let given = damaged_given(random, n);
     let _ = trimmed(&given, longer, usize::from(random.percent(10)));
+    let mut table = random_traced(random, n, true).as_flattened().to_vec();
+    let variable = random_variable(random, &table);
+    if random.percent(20) {
+        damage(random, &mut table);
+    }
+    let _ = traced(&table, variable, longer, usize::from(random.percent(10)));
 }
 
 /// What is given to a trimming call, in about half of the cases damaged.
@@ -123,6 +130,29 @@ pub fn trim_each<const N: usize>(
         let Given { table, certificate, kept } = given;
         let answer = call(table, certificate, kept, &mut trimmed, &mut numbers, &mut scratch);
         (answer, (trimmed, numbers), scratch)
+    })
+}
+
+/// The answer of all tracing calls, once they are found equal. So much is missing of the row.
+pub fn traced(table: &[u8], variable: u32, longer: usize, missing: usize) -> path::Answer {
+    let made = path_each(PATH, table, variable, longer, missing);
+    assert_alike(&made);
+    made[0].0
+}
+
+pub fn path_each<const N: usize>(
+    calls: [&Path; N],
+    table: &[u8],
+    variable: u32,
+    longer: usize,
+    missing: usize,
+) -> [Made<u32, Vec<u16>>; N] {
+    let n = table.len() / 16;
+    calls.map(|call| {
+        let mut row: Vec<u16> = noise((n + longer).saturating_sub(missing)).collect();
+        let mut scratch: Vec<u16> = noise(n * 8 + longer).collect();
+        let answer = call(table, variable, &mut row, &mut scratch);
+        (answer, row, scratch)
     })
 }
 

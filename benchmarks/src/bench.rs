@@ -2,30 +2,31 @@
 
 use crate::schedule::schedule;
 use crate::table::{decoded, Bytes, Chunks, Table};
-use model::{check_lengths, split_stimuli, Refusal, Stimulus, SCRATCH_A_RECORD};
+use model::{check_lengths, split_stimuli, Refusal, Stimulus, BENCH_ASKS};
 
 pub type Answer = Result<(), Refusal>;
 
 /// Records read byte by byte by index, at each evaluation.
 pub fn by_bytes(table: &[u8], stimuli: &[u8], values: &mut [u32], scratch: &mut [u16]) -> Answer {
-    let records = check_lengths(table, values.len(), 1, scratch.len())?;
+    let records = check_lengths(table, BENCH_ASKS, values.len(), scratch.len())?;
     bench(&Bytes::checked(table, records.len())?, stimuli, values, scratch)
 }
 
 /// Records read as arrays of 16 bytes, at each evaluation.
 pub fn by_chunks(table: &[u8], stimuli: &[u8], values: &mut [u32], scratch: &mut [u16]) -> Answer {
-    let records = check_lengths(table, values.len(), 1, scratch.len())?;
+    let records = check_lengths(table, BENCH_ASKS, values.len(), scratch.len())?;
     bench(&Chunks::checked(records)?, stimuli, values, scratch)
 }
 
 /// Records decoded into structs first.
 pub fn by_structs(table: &[u8], stimuli: &[u8], values: &mut [u32], scratch: &mut [u16]) -> Answer {
-    let records = check_lengths(table, values.len(), 1, scratch.len())?;
+    let records = check_lengths(table, BENCH_ASKS, values.len(), scratch.len())?;
     bench(&decoded(records)?, stimuli, values, scratch)
 }
 
 fn bench(t: &impl Table, s: &[u8], values: &mut [u32], scratch: &mut [u16]) -> Answer {
     let n = t.len();
+    let scratch = &mut scratch[..n * BENCH_ASKS.scratch];
     let (wires, registers) = schedule(t, n, scratch)?;
     let checked = check_stimuli(t, n, s);
     if checked.is_ok() {
@@ -35,7 +36,7 @@ fn bench(t: &impl Table, s: &[u8], values: &mut [u32], scratch: &mut [u16]) -> A
         settle(t, &scratch[..wires], values);
         run(t, n, s, scratch, wires, registers, values);
     }
-    scratch[..n * SCRATCH_A_RECORD].fill(0);
+    scratch.fill(0);
     checked
 }
 

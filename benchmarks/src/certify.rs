@@ -2,41 +2,55 @@
 
 use crate::schedule::schedule;
 use crate::table::{decoded, ByteCells, Bytes, Cells, ChunkCells, Chunks, Table};
-use model::{check_lengths, Fact, Refusal, SCRATCH_A_RECORD};
+use model::{check_lengths, Fact, Refusal, CERTIFY_ASKS};
 
 pub type Answer = Result<u32, Refusal>;
 
 /// Records and facts read byte by byte by index, at each evaluation.
 pub fn by_bytes(table: &[u8], certificate: &mut [u8], scratch: &mut [u16]) -> Answer {
-    let records = check_lengths(table, certificate.len(), 8, scratch.len())?;
+    let records = check_lengths(table, CERTIFY_ASKS, certificate.len(), scratch.len())?;
     let t = Bytes::checked(table, records.len())?;
     certify(&t, &mut ByteCells(certificate), scratch)
 }
 
 /// Records and facts read as arrays of 16 and 8 bytes, at each evaluation.
 pub fn by_chunks(table: &[u8], certificate: &mut [u8], scratch: &mut [u16]) -> Answer {
-    let records = check_lengths(table, certificate.len(), 8, scratch.len())?;
+    let records = check_lengths(table, CERTIFY_ASKS, certificate.len(), scratch.len())?;
     let t = Chunks::checked(records)?;
     certify(&t, &mut ChunkCells(certificate.as_chunks_mut().0), scratch)
 }
 
 /// Records decoded into structs first.
 pub fn by_structs(table: &[u8], certificate: &mut [u8], scratch: &mut [u16]) -> Answer {
-    let records = check_lengths(table, certificate.len(), 8, scratch.len())?;
+    let records = check_lengths(table, CERTIFY_ASKS, certificate.len(), scratch.len())?;
     let t = decoded(records)?;
     certify(&t, &mut ChunkCells(certificate.as_chunks_mut().0), scratch)
 }
 
 fn certify(t: &impl Table, cells: &mut impl Cells, scratch: &mut [u16]) -> Answer {
     let n = t.len();
-    let (wires, registers) = schedule(t, n, scratch)?;
+    let part = &mut scratch[..n * CERTIFY_ASKS.scratch];
+    let (wires, registers) = schedule(t, n, part)?;
+    let rounds = find_facts(t, n, part, wires, registers, cells);
+    part.fill(0);
+    Ok(rounds)
+}
+
+/// Puts the certificate's facts into the cells, with the order in the scratch and room to stage behind it. How many
+/// rounds they took.
+pub fn find_facts(
+    t: &impl Table,
+    n: usize,
+    scratch: &mut [u16],
+    wires: usize,
+    registers: usize,
+    cells: &mut impl Cells,
+) -> u32 {
     for v in 0..n {
         cells.store(v, t.record(v).first_fact());
     }
     settle(t, &scratch[..wires], cells);
-    let rounds = run_rounds(t, n, scratch, wires, registers, cells);
-    scratch[..n * SCRATCH_A_RECORD].fill(0);
-    Ok(rounds)
+    run_rounds(t, n, scratch, wires, registers, cells)
 }
 
 #[inline(always)]

@@ -11,6 +11,7 @@ mod before;
 mod bench;
 mod certify;
 mod measure;
+mod path;
 mod print;
 mod schedule;
 mod shapes;
@@ -22,7 +23,8 @@ mod worklist;
 mod common;
 
 use alike::{
-    assert_alike, bench_each, benched, certified, certify_each, compare_variants, trim_each, trimmed, Made,
+    assert_alike, bench_each, benched, certified, certify_each, compare_variants, path_each, traced,
+    trim_each, trimmed, Made,
 };
 use before::Archive;
 use common::trims::Given;
@@ -38,12 +40,14 @@ use std::hint::black_box;
 type Certify = dyn Fn(&[u8], &mut [u8], &mut [u16]) -> certify::Answer;
 type Bench = dyn Fn(&[u8], &[u8], &mut [u32], &mut [u16]) -> bench::Answer;
 type Trim = dyn Fn(&[u8], &[u8], &[u16], &mut [u8], &mut [u16], &mut [u16]) -> trim::Answer;
+type Path = dyn Fn(&[u8], u32, &mut [u16], &mut [u16]) -> path::Answer;
 
 /// The archive's call, and then the variants.
 const CERTIFY: [&Certify; 5] =
     [&compare::certify, &certify::by_bytes, &certify::by_chunks, &certify::by_structs, &worklist::certify];
 const BENCH: [&Bench; 4] = [&compare::bench, &bench::by_bytes, &bench::by_chunks, &bench::by_structs];
 const TRIM: [&Trim; 4] = [&compare::trim, &trim::by_bytes, &trim::by_chunks, &trim::by_structs];
+const PATH: [&Path; 4] = [&compare::path, &path::by_bytes, &path::by_chunks, &path::by_structs];
 
 /// With this seed the shapes are those of docs/PERFORMANCE.md.
 const SEED: u64 = 0x1833_2ffc_e272_4a06;
@@ -57,7 +61,7 @@ fn main() {
     };
     let mut random = Random::of_test("benchmarks", SEED);
     // The shapes come first, so that they do not depend on the random tables.
-    let Shapes { for_certify, for_bench, for_trim } = shapes::shapes(&mut random);
+    let Shapes { for_certify, for_bench, for_trim, for_path } = shapes::shapes(&mut random);
     compare_variants(&mut random);
     print_head();
     let archives = archives.as_ref();
@@ -65,6 +69,7 @@ fn main() {
     held.extend(for_certify.iter().map(|shape| certify_row(shape, archives)));
     held.extend(for_bench.iter().map(|shape| bench_row(shape, archives)));
     held.extend(for_trim.iter().map(|shape| trim_row(shape, archives)));
+    held.extend(for_path.iter().map(|shape| path_row(shape, archives)));
     if archives.is_some() {
         print_before(held.into_iter().flatten());
     }
@@ -149,6 +154,32 @@ fn trim_row(shape: &Shape, archives: Option<&[Archive; 2]>) -> Option<String> {
         [Some(this), Some(earlier)] => {
             let calls = [this, earlier];
             before_row(&head, &trim_each(calls, given, 0, 0), calls.map(ready), false)
+        }
+        _ => empty_row(&head),
+    })
+}
+
+/// An archive from before tracing has no time. As a row goes by the facts, other rules may give another.
+fn path_row(shape: &Shape, archives: Option<&[Archive; 2]>) -> Option<String> {
+    let (table, variable) = (&shape.table, shape.variable);
+    let rounds = certified(table, 0).expect("the shapes are accepted") as usize;
+    let length = traced(table, variable, 0, 0).expect("the shapes are accepted");
+    let n = table.len() / 16;
+    let lent = &RefCell::new((vec![0; n], vec![0; n * 8]));
+    let ready = |call: &'static Path| -> Call {
+        Box::new(move || {
+            let (row, scratch) = &mut *lent.borrow_mut();
+            let _ = black_box(call(black_box(table), black_box(variable), row, scratch));
+        })
+    };
+    let times = medians(&mut PATH.map(ready));
+    let (wires, registers) = counted(table);
+    let head = row_head("path", shape.name, n, length);
+    print_row(&head, (wires + registers) * (rounds + 1), &times);
+    archives.map(|archives| match archives.each_ref().map(|archive| archive.path) {
+        [Some(this), Some(earlier)] => {
+            let calls = [this, earlier];
+            before_row(&head, &path_each(calls, table, variable, 0, 0), calls.map(ready), true)
         }
         _ => empty_row(&head),
     })

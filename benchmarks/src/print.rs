@@ -4,10 +4,8 @@ use crate::measure::Compared;
 use std::fmt::Display;
 
 pub fn print_head() {
-    println!(
-        "count: rounds of certify, stimuli of bench, records written by trim; ns each: the call's time by"
-    );
-    println!("its evaluations, for trim by the table's records");
+    println!("count: rounds of certify, stimuli of bench, records written by trim, variables in the row of path;");
+    println!("ns each: the call's time by its evaluations, for trim by the table's records, for path by certify's");
     println!(
         "times are medians; a ratio is the archive's time by the variant's: below 1 the archive is faster"
     );
@@ -63,7 +61,8 @@ pub fn print_before(rows: impl Iterator<Item = String>) {
     println!(
         "of the turns: the middle one, lowest and highest; empty where the earlier one refuses, or has"
     );
-    println!("no such call; * where certify answers or writes something else, as the earlier one's rules are others");
+    println!("no such call; * where certify or path answers or writes something else, as the earlier one's rules");
+    println!("are others");
     println!();
     println!("{}", before_cells(&titles(), ["before", "after", "after by before"].map(String::from)));
     println!("|---|---|---:|---:|---:|---:|---:|");

@@ -3,7 +3,7 @@
 //! from place n on.
 
 use crate::table::Table;
-use model::{Refusal, SCRATCH_A_RECORD};
+use model::Refusal;
 
 enum Visited {
     All(usize),
@@ -65,10 +65,9 @@ fn show_loop(s: &mut [u16], n: usize, top: usize, u: usize) -> usize {
     row.len()
 }
 
-/// The wires in order and then the registers at the front of the scratch, and how many there are; or a loop. The
-/// rest of the part is 0.
+/// The wires in order and then the registers at the front of the scratch's part that the call asks for, and how many
+/// there are; or a loop. The rest of the part is 0.
 pub fn schedule(t: &impl Table, n: usize, s: &mut [u16]) -> Result<(usize, usize), Refusal> {
-    let part = n * SCRATCH_A_RECORD;
     s[n..n + n].fill(0);
     match visit_all(t, n, s) {
         Visited::All(wires) => {
@@ -79,12 +78,12 @@ pub fn schedule(t: &impl Table, n: usize, s: &mut [u16]) -> Result<(usize, usize
                     registers += 1;
                 }
             }
-            s[wires + registers..part].fill(0);
+            s[wires + registers..].fill(0);
             Ok((wires, registers))
         }
         Visited::Loop(top, u) => {
             let size = show_loop(s, n, top, u);
-            s[size..part].fill(0);
+            s[size..].fill(0);
             Err(Refusal::of_loop(size))
         }
     }

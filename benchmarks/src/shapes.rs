@@ -1,6 +1,8 @@
 //! The tables and lists that are timed.
 
 use crate::common::document_cases::case_a;
+use crate::common::paths::marked;
+use crate::common::samples::add;
 use crate::common::shapes::{ring, turned};
 use crate::common::tables::{random_number, random_stimuli, renumbered};
 use crate::common::{
@@ -9,16 +11,18 @@ use crate::common::{
 };
 use model::{read_records, Operator, Record};
 
-/// A table, for the bench the list that runs on it, and for trim the variables that are kept.
+/// A table, for the bench the list that runs on it, for trim the variables that are kept, and for path the one that
+/// it traces from.
 pub struct Shape {
     pub name: &'static str,
     pub table: Vec<u8>,
     pub stimuli: Vec<u8>,
     pub kept: Vec<u16>,
+    pub variable: u32,
 }
 
 fn shape(name: &'static str, table: &[RecordBytes]) -> Shape {
-    Shape { name, table: table.as_flattened().to_vec(), stimuli: vec![], kept: vec![] }
+    Shape { name, table: table.as_flattened().to_vec(), stimuli: vec![], kept: vec![], variable: 0 }
 }
 
 fn listed(name: &'static str, table: &[RecordBytes], list: &[[u8; 8]]) -> Shape {
@@ -29,15 +33,22 @@ fn kept(name: &'static str, table: &[RecordBytes], kept: &[u16]) -> Shape {
     Shape { kept: kept.to_vec(), ..shape(name, table) }
 }
 
+/// From the last variable that is marked.
+fn traced(name: &'static str, table: &[RecordBytes]) -> Shape {
+    let variable = *marked(table.as_flattened()).last().expect("a variable is marked");
+    Shape { variable, ..shape(name, table) }
+}
+
 /// The shapes for each call.
 pub struct Shapes {
     pub for_certify: Vec<Shape>,
     pub for_bench: Vec<Shape>,
     pub for_trim: Vec<Shape>,
+    pub for_path: Vec<Shape>,
 }
 
-/// The shapes. Those with enables are made after the others of certify and the bench, those for trim then, and
-/// those of operators that are not all known last, so that no other depends on them.
+/// The shapes. Those with enables are made after the others of certify and the bench, those for trim then, those of
+/// operators that are not all known behind them, and those for path last, so that no other depends on them.
 pub fn shapes(random: &mut Random) -> Shapes {
     let (mut for_certify, mut for_bench) = (for_certify(random), for_bench(random));
     let [certify_enabled, bench_enabled] = with_enables(random);
@@ -45,7 +56,8 @@ pub fn shapes(random: &mut Random) -> Shapes {
     for_bench.extend(bench_enabled);
     let for_trim = for_trim(random);
     for_certify.extend(not_known(random));
-    Shapes { for_certify, for_bench, for_trim }
+    let for_path = for_path(random);
+    Shapes { for_certify, for_bench, for_trim, for_path }
 }
 
 fn for_certify(random: &mut Random) -> Vec<Shape> {
@@ -123,6 +135,25 @@ fn for_trim(random: &mut Random) -> Vec<Shape> {
     ]
 }
 
+/// Long rows, through registers, which take a round each, and through wires; equally short ones; and wide tables, in
+/// which much is searched for a short row.
+fn for_path(random: &mut Random) -> Vec<Shape> {
+    let ring = ring(1024, |data| register(1 + random.below(32) as u8, 0, data));
+    let on_a_secret = operators_on(random, secret(32), 4096);
+    vec![
+        traced("case A", &case_a(free(1))),
+        traced("registers on a secret", &registers_on(secret(1), 4096)),
+        traced("ring of registers (2 R)", &ring),
+        traced("wires on a secret", &wires_on_a_secret(4096)),
+        traced("operators on a secret", &on_a_secret),
+        equally_short(random, 64),
+        traced("random mix", &mix(random, 256)),
+        traced("random mix", &mix(random, 1024)),
+        traced("random mix", &mix(random, 4096)),
+        traced("mix with enables", &mix_with_enables(random, 4096)),
+    ]
+}
+
 /// Operators of which none is always a number, and those on zeros, which decide some of them.
 fn not_known(random: &mut Random) -> [Shape; 2] {
     [
@@ -163,10 +194,35 @@ fn operators_on_zeros(random: &mut Random, n: usize) -> Table {
     leaves.iter().copied().chain(operators).collect()
 }
 
-/// A constant and a chain of registers behind it, which takes a round for each of them.
+/// A constant and a chain of registers behind it.
 fn registers(n: usize) -> Table {
+    registers_on(constant(1, 1), n)
+}
+
+/// A record and a chain of registers behind it, which takes a round for each of them.
+fn registers_on(first: RecordBytes, n: usize) -> Table {
     let chain = (1..n).map(|i| register(1, 0, i as u16 - 1));
-    std::iter::once(constant(1, 1)).chain(chain).collect()
+    std::iter::once(first).chain(chain).collect()
+}
+
+/// A secret input and a chain of adds behind it.
+fn wires_on_a_secret(n: usize) -> Table {
+    let chain = (1..n as u16).map(|i| add(i - 1));
+    std::iter::once(secret(8)).chain(chain).collect()
+}
+
+/// Layers of a size, as many as there are variables in one: secret inputs, and then operators on any two of the layer
+/// before, in a random order. From one of the last layer there are many rows, and all are equally short.
+fn equally_short(random: &mut Random, size: usize) -> Shape {
+    let mut table: Table = vec![secret(32); size];
+    for i in size..size * size {
+        let layer = i / size * size - size;
+        let [a, b] = [0; 2].map(|_| (layer + random.below(size)) as u16);
+        table.push(operator(Operator::Xor, 32, a, b));
+    }
+    let order = random.order(table.len());
+    let variable = order[table.len() - 1] as u32;
+    Shape { variable, ..shape("equally short rows", &renumbered(&table, &order)) }
 }
 
 /// The input that enables the registers of a chain.

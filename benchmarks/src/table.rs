@@ -200,7 +200,7 @@ impl Table for Vec<Decoded> {
     }
 }
 
-/// The facts, in a certificate's bytes.
+/// The facts, in a certificate's bytes or in a scratch.
 pub trait Cells {
     fn load(&self, v: usize) -> Fact;
 
@@ -237,5 +237,51 @@ impl Cells for ChunkCells<'_> {
     #[inline(always)]
     fn store(&mut self, v: usize, f: Fact) {
         self.0[v] = f.bytes();
+    }
+}
+
+/// Facts in a scratch, three numbers each: the code, and the low and the high half of the number. Read and written
+/// number by number by index, as the proved code does.
+pub struct NumberCells<'a>(pub &'a mut [u16]);
+
+/// The same, read and written by whole facts: one bounds check finds three numbers.
+pub struct TripleCells<'a>(pub &'a mut [[u16; 3]]);
+
+/// The fact that these three numbers are.
+#[inline(always)]
+fn fact_of([code, low, high]: [u16; 3]) -> Fact {
+    Fact::with_code(code as u8, u32::from(low) + 65_536 * u32::from(high))
+}
+
+/// The three numbers of a fact.
+#[inline(always)]
+fn numbers_of(f: Fact) -> [u16; 3] {
+    let n = if let Fact::Always(n) = f { n } else { 0 };
+    [f.code().into(), n as u16, (n >> 16) as u16]
+}
+
+impl Cells for NumberCells<'_> {
+    #[inline(always)]
+    fn load(&self, v: usize) -> Fact {
+        fact_of([0, 1, 2].map(|i| self.0[v * 3 + i]))
+    }
+
+    #[inline(always)]
+    fn store(&mut self, v: usize, f: Fact) {
+        for (i, number) in numbers_of(f).into_iter().enumerate() {
+            self.0[v * 3 + i] = number;
+        }
+    }
+}
+
+impl Cells for TripleCells<'_> {
+    #[inline(always)]
+    fn load(&self, v: usize) -> Fact {
+        fact_of(self.0[v])
+    }
+
+    #[inline(always)]
+    fn store(&mut self, v: usize, f: Fact) {
+        self.0[v] = numbers_of(f);
     }
 }

@@ -3,7 +3,7 @@
 
 use crate::schedule::schedule;
 use crate::table::{decoded, Bytes, Chunks, Table};
-use model::{check_kept, check_lengths, check_outputs, fits, Fields, Kind, Refusal, SCRATCH_A_RECORD};
+use model::{check_kept, check_lengths, check_outputs, fits, Fields, Kind, Refusal, TRIM_ASKS};
 
 pub type Answer = Result<u32, Refusal>;
 
@@ -52,10 +52,9 @@ pub fn by_structs(
     trim(&decoded(records)?, room, kept, &mut lent, numbers, scratch)
 }
 
-/// The records, or the first of grounds 1, 2 and 4 that holds: ground 3 finds nothing short where nothing is
-/// asked.
+/// The records, or the first of grounds 1, 2 and 4 that holds.
 fn split<'a>(table: &'a [u8], scratch: &[u16]) -> Result<&'a [[u8; 16]], Refusal> {
-    check_lengths(table, 0, 0, scratch.len())
+    check_lengths(table, TRIM_ASKS, 0, scratch.len())
 }
 
 /// Where a record's bytes and a fact's are read, and where a record's are written. As in the proved code, what a
@@ -163,8 +162,8 @@ fn trim(
     scratch: &mut [u16],
 ) -> Answer {
     let n = t.len();
-    schedule(t, n, scratch)?;
-    let part = &mut scratch[..n * SCRATCH_A_RECORD];
+    let part = &mut scratch[..n * TRIM_ASKS.scratch];
+    schedule(t, n, part)?;
     part.fill(0);
     check(t, n, room, kept, lent)?;
     visit(t, n, kept, lent, part);

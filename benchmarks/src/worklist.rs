@@ -4,11 +4,12 @@
 use crate::certify::Answer;
 use crate::schedule::schedule;
 use crate::table::{decoded, Decoded};
-use model::{check_lengths, Fact, SCRATCH_A_RECORD};
+use model::{check_lengths, Fact, CERTIFY_ASKS};
 
 pub fn certify(table: &[u8], certificate: &mut [u8], scratch: &mut [u16]) -> Answer {
-    let records = decoded(check_lengths(table, certificate.len(), 8, scratch.len())?)?;
+    let records = decoded(check_lengths(table, CERTIFY_ASKS, certificate.len(), scratch.len())?)?;
     let n = records.len();
+    let scratch = &mut scratch[..n * CERTIFY_ASKS.scratch];
     let (wires, registers) = schedule(&records, n, scratch)?;
     let mut facts: Vec<Fact> = records.iter().map(|r| r.record.first_fact()).collect();
     for &v in &scratch[..wires] {
@@ -18,7 +19,7 @@ pub fn certify(table: &[u8], certificate: &mut [u8], scratch: &mut [u16]) -> Ans
     for (bytes, f) in certificate.as_chunks_mut().0.iter_mut().zip(&facts) {
         *bytes = f.bytes();
     }
-    scratch[..n * SCRATCH_A_RECORD].fill(0);
+    scratch.fill(0);
     Ok(rounds)
 }
 

@@ -2,7 +2,10 @@
 //! list of them, and the bench call.
 
 use crate::table::accept;
-use crate::{fits, poke, power_on, tick, InputKind, Record, Refusal};
+use crate::{fits, poke, power_on, tick, Asked, InputKind, Record, Refusal};
+
+/// What the bench call asks: a number a variable, and the scratch.
+pub const BENCH_ASKS: Asked = Asked { output: 1, scratch: 4 };
 
 /// The most stimuli that a list can have.
 const MOST_STIMULI: usize = 4096;
@@ -81,7 +84,7 @@ pub fn run(records: &[Record], stimuli: &[Stimulus]) -> Vec<u32> {
 
 /// The bench call: the state after the last stimulus, number i holding variable i, or the refusal.
 pub fn bench(table: &[u8], stimuli: &[u8], values: &mut [u32], scratch: &mut [u16]) -> Result<(), Refusal> {
-    let records = accept(table, values.len(), 1, scratch)?;
+    let records = accept(table, BENCH_ASKS, values.len(), scratch)?;
     let stimuli = read_stimuli(stimuli, &records)?;
     values[..records.len()].copy_from_slice(&run(&records, &stimuli));
     Ok(())

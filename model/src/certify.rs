@@ -2,7 +2,10 @@
 //! their count, the 8 bytes of a variable, and the certifying call.
 
 use crate::table::accept;
-use crate::{rule, settle, together, Fact, Record, Refusal};
+use crate::{rule, settle, together, Asked, Fact, Record, Refusal};
+
+/// What the certifying call asks: 8 bytes a variable, and the scratch.
+pub const CERTIFY_ASKS: Asked = Asked { output: 8, scratch: 4 };
 
 impl Record {
     /// The fact before any round: an input has its rule's, a register is always its power-on value. A wire's
@@ -87,7 +90,7 @@ impl Fact {
 
 /// The certifying call: the count of rounds, with 8 bytes a variable in the certificate, or the refusal.
 pub fn certify(table: &[u8], certificate: &mut [u8], scratch: &mut [u16]) -> Result<u32, Refusal> {
-    let records = accept(table, certificate.len(), 8, scratch)?;
+    let records = accept(table, CERTIFY_ASKS, certificate.len(), scratch)?;
     let (count, store) = rounds(&records);
     for (bytes, fact) in certificate.chunks_exact_mut(8).zip(store) {
         bytes.copy_from_slice(&fact.bytes());

@@ -7,8 +7,13 @@ use crate::{find_loop, Record, Refusal};
 /// The most bytes that a table can have.
 const LONGEST_TABLE: usize = 65_536;
 
-/// How many 16-bit numbers of scratch ground 4 asks for a record.
-pub const SCRATCH_A_RECORD: usize = 4;
+/// What a call asks for a record: so many elements of its output, or ground 3, and so many 16-bit numbers of
+/// scratch, or ground 4.
+#[derive(Debug, Clone, Copy)]
+pub struct Asked {
+    pub output: usize,
+    pub scratch: usize,
+}
 
 /// The 16 bytes of each record, or the first of grounds 1 and 2 that holds.
 fn split_records(table: &[u8]) -> Result<&[[u8; 16]], Refusal> {
@@ -22,19 +27,19 @@ fn split_records(table: &[u8]) -> Result<&[[u8; 16]], Refusal> {
     Ok(records)
 }
 
-/// The 16 bytes of each record, with the output's length, the length that it must have a record, and the
-/// scratch's length; or the first of grounds 1 to 4 that holds.
+/// The 16 bytes of each record, with what is asked and the lengths of the output and of the scratch; or the
+/// first of grounds 1 to 4 that holds.
 pub fn check_lengths(
     table: &[u8],
+    asked: Asked,
     output: usize,
-    output_a_record: usize,
     scratch: usize,
 ) -> Result<&[[u8; 16]], Refusal> {
     let records = split_records(table)?;
-    if output < output_a_record * records.len() {
+    if output < asked.output * records.len() {
         return Err(Refusal { ground: 3, place: 0 });
     }
-    if scratch < SCRATCH_A_RECORD * records.len() {
+    if scratch < asked.scratch * records.len() {
         return Err(Refusal { ground: 4, place: 0 });
     }
     Ok(records)
@@ -53,18 +58,18 @@ pub fn read_records(table: &[u8]) -> Result<Vec<Record>, Refusal> {
     read_each(split_records(table)?)
 }
 
-/// The records of a table that meets none of grounds 1 to 11, with the output's length and the length that
-/// it must have a record; or the first ground that holds.
+/// The records of a table that meets none of grounds 1 to 11, with what is asked and the output's length; or
+/// the first ground that holds.
 ///
 /// Once grounds 1 to 10 are passed the scratch's part is the loop and then 0, or all 0 where there is none.
 pub(crate) fn accept(
     table: &[u8],
+    asked: Asked,
     output: usize,
-    output_a_record: usize,
     scratch: &mut [u16],
 ) -> Result<Vec<Record>, Refusal> {
-    let records = read_each(check_lengths(table, output, output_a_record, scratch.len())?)?;
-    let part = &mut scratch[..SCRATCH_A_RECORD * records.len()];
+    let records = read_each(check_lengths(table, asked, output, scratch.len())?)?;
+    let part = &mut scratch[..asked.scratch * records.len()];
     part.fill(0);
     match find_loop(&records) {
         None => Ok(records),

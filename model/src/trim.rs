@@ -2,7 +2,11 @@
 //! then remains, its new numbers, and the call with its grounds 20, 21 and 22.
 
 use crate::table::accept;
-use crate::{fits, Fact, Record, Refusal};
+use crate::{fits, Asked, Fact, Record, Refusal};
+
+/// What the trimming call asks: the scratch. Ground 21 stands in place of 3, which finds nothing short where
+/// nothing is asked.
+pub const TRIM_ASKS: Asked = Asked { output: 0, scratch: 4 };
 
 /// Ground 20: the first kept number that is not below the number of records.
 pub fn check_kept(kept: &[u16], records: usize) -> Result<(), Refusal> {
@@ -103,8 +107,7 @@ pub fn trim(
     numbers: &mut [u16],
     scratch: &mut [u16],
 ) -> Result<u32, Refusal> {
-    // Ground 21 stands in place of 3, which finds nothing short where nothing is asked.
-    let records = accept(table, 0, 0, scratch)?;
+    let records = accept(table, TRIM_ASKS, 0, scratch)?;
     check_kept(kept, records.len())?;
     check_outputs(records.len(), trimmed.len(), numbers.len())?;
     let facts = read_certificate(certificate, &records)?;

@@ -26,6 +26,8 @@ use Rattle.bill.proofs.Promise.{accepted-small, refused-small}
 use Rattle.trim.specs.Promise.{secondOf, trimming}
 use Rattle.trim.proofs.Places.{OfTrim, trim-refusals}
 use Rattle.trim.proofs.Promise.{accepted-few}
+use Rattle.path.specs.Promise.{checkMarked, tracing}
+use Rattle.path.proofs.Promise.{path-refusals, path-short}
 use Rattle.capi.specs.Packed.{packed, Low, cut}
 
 -- two answers with the same number are the same
@@ -62,6 +64,13 @@ benched-low s l e =
     answer-low (benching s) l e (λ k p. omega (arith, p .accepts .no-number))
     (refusals-weaken (λ g place. (12 ≤ groundNumber g) × (place ≤ 4096)) (λ g place. place < 2 ^ 32)
     (checkStimuli (circuitOf l) s) (λ g place h. omega (arith, h .1)) (stimuli-refusals (circuitOf l) s))
+
+-- the place of ground 23 is the variable given
+pub traced-low : (v : ℕ) (l : Lent) (e : Left) → v < 2 ^ 32 → (a : Answer) → Promises (tracing v) l e a → Low a
+traced-low v l e small =
+    answer-low (tracing v) l e (λ k p. omega (arith, path-short p))
+    (refusals-weaken (λ g place. (groundNumber g ≡ 23) × (place ≡ v)) (λ g place. place < 2 ^ 32)
+    (checkMarked (circuitOf l) v) (λ g place h. omega (arith, h .1)) (path-refusals v l))
 
 pub billed-low : (sizes entry exit : List ℕ) (a : Answer) → Bills sizes entry exit a → Low a
 billed-low sizes entry exit (accepted k) p = accepted-small p .2

@@ -6,6 +6,7 @@ ghost use Rattle.certificate.specs.Promise as certified;
 ghost use Rattle.machine.specs.Promise as benched;
 ghost use Rattle.bill.specs.Promise as billed;
 ghost use Rattle.trim.specs.Promise as trims;
+ghost use Rattle.path.specs.Promise as traced;
 ghost use Rattle.capi.specs.Packed.{packed, Low, PackedOf, PromisesPacked, cut, CutOf};
 use bill::Billed;
 use bill::bill;
@@ -15,6 +16,8 @@ use circuit::refusal::Ground;
 use circuit::refusal::ground_number;
 use machine::Benched;
 use machine::bench;
+use path::Traced;
+use path::path;
 use trim::Trimmed;
 use trim::trim;
 
@@ -80,6 +83,17 @@ fn pack_trimmed(answer: Trimmed) -> u64
     }
 }
 
+// The path call's answer as one number.
+fn pack_path(answer: Traced) -> u64
+    requires { ⌜ Low (traced.answerOf answer) ⌝ }
+    ensures { λ r. ⌜ r ≡ packed (traced.answerOf answer) ⌝ }
+{
+    match answer {
+        Traced::Accepted(size) => size as u64,
+        Traced::Refused(ground, place) => pack_refusal(ground, place),
+    }
+}
+
 // The certifying call: the number of rounds, or ground * 2^32 + place.
 #[no_mangle]
 pub extern "C" fn lambdac_certify(table: &[u8], certificate: &mut [u8], scratch: &mut [u16]) -> u64
@@ -129,4 +143,19 @@ pub extern "C" fn lambdac_trim(
         (trims.left (now (trimmed .exit)) (now (numbers .exit)) (now (scratch .exit)))) r ⌝ }
 {
     pack_trimmed(trim(table, certificate, kept, trimmed, numbers, scratch))
+}
+
+// The path call: the row's length, or ground * 2^32 + place.
+#[no_mangle]
+pub extern "C" fn lambdac_path(
+    table: &[u8],
+    variable: u32,
+    row: &mut [u16],
+    scratch: &mut [u16],
+) -> u64
+    ensures { λ r. ⌜ PromisesPacked (traced.tracing variable)
+        (lent (now (table .entry)) (now (row .entry)) (now (scratch .entry)))
+        (left (now (row .exit)) (now (scratch .exit))) r ⌝ }
+{
+    pack_path(path(table, variable, row, scratch))
 }

@@ -24,8 +24,8 @@ use schedule::Outcome;
 use schedule::clear;
 use schedule::schedule;
 
-mod pass;
-mod round;
+pub mod pass;
+pub mod round;
 
 // What is asked a record of the certificate and of the scratch.
 const EACH: usize = 8;

@@ -30,7 +30,7 @@ use fact::multiplexer_rule;
 use fact::operator_rule;
 use fact::register_rule;
 
-fn initial_fact(r: Record) -> Fact
+pub fn initial_fact(r: Record) -> Fact
     ensures { λ f. ⌜ f ≡ initialFact r ⌝ }
 {
     match r {

@@ -29,7 +29,7 @@ use fact::cell::byte;
 use fact::cell::load;
 use fact::cell::store;
 
-fn differs(f: Fact, g: Fact) -> bool
+pub fn differs(f: Fact, g: Fact) -> bool
     ensures { λ r. ⌜ r ≡ not (same f g) ⌝ }
 {
     match f {
@@ -51,7 +51,7 @@ fn differs(f: Fact, g: Fact) -> bool
     }
 }
 
-fn either(a: bool, b: bool) -> bool
+pub fn either(a: bool, b: bool) -> bool
     ensures { λ r. ⌜ r ≡ (a || b) ⌝ }
 {
     if a {

@@ -14,7 +14,7 @@ use Rattle.net.specs.declared.Stimulus.{Stimulus}
 use Rattle.net.specs.declared.Stimulus.the-variants.{Poke, Tick}
 use Rattle.circuit.specs.declared.refusal.Ground.{Ground}
 use Rattle.circuit.specs.declared.refusal.Ground.the-variants.{TableTooLong, TableNotWhole, OutputShort, ScratchShort, UnknownKind, BadWidth, UnknownCode, UnusedNotZero, NoSuchVariable, ValueTooWide, Loop, StimuliNotWhole, TooManyStimuli, BadStimulus, NotAnInput, PokeTooWide, FixedInput, TooManySizes, SizeTooLarge}
-use Rattle.circuit.specs.declared.refusal.Ground.the-variants.{NoSuchKept, TrimmedShort, BadCertificate}
+use Rattle.circuit.specs.declared.refusal.Ground.the-variants.{NoSuchKept, TrimmedShort, BadCertificate, NotMarked}
 use Rattle.circuit.specs.declared.refusal.Check.{Check}
 use Rattle.circuit.specs.declared.refusal.Check.the-variants as check
 use Rattle.circuit.specs.declared.record.Fields.{Fields}
@@ -55,10 +55,11 @@ grounds =
     ∷ NoSuchKept
     ∷ TrimmedShort
     ∷ BadCertificate
+    ∷ NotMarked
     ∷ []
 
 abbrev numbered : ℕ → Ground
-numbered number = getD grounds (number - 1) BadCertificate
+numbered number = getD grounds (number - 1) NotMarked
 
 -- a ground has its number's place among them
 ground-number : (ground : Ground)
@@ -85,6 +86,7 @@ ground-number SizeTooLarge = (refl, omega arith, omega arith)
 ground-number NoSuchKept = (refl, omega arith, omega arith)
 ground-number TrimmedShort = (refl, omega arith, omega arith)
 ground-number BadCertificate = (refl, omega arith, omega arith)
+ground-number NotMarked = (refl, omega arith, omega arith)
 
 pub ground-range : (ground : Ground) → (1 ≤ groundNumber ground) × (groundNumber ground ≤ 99)
 ground-range ground = let n = ground-number ground in (n .1, n .2)

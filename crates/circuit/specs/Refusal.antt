@@ -5,11 +5,11 @@ use mathlib.Core.Bool.{Bool, true, false}
 use Prim.Native.Nat.{ℕ}
 use Rattle.circuit.specs.declared.refusal.Ground.{Ground}
 use Rattle.circuit.specs.declared.refusal.Ground.the-variants.{TableTooLong, TableNotWhole, OutputShort, ScratchShort, UnknownKind, BadWidth, UnknownCode, UnusedNotZero, NoSuchVariable, ValueTooWide, Loop, StimuliNotWhole, TooManyStimuli, BadStimulus, NotAnInput, PokeTooWide, FixedInput, TooManySizes, SizeTooLarge}
-use Rattle.circuit.specs.declared.refusal.Ground.the-variants.{NoSuchKept, TrimmedShort, BadCertificate}
+use Rattle.circuit.specs.declared.refusal.Ground.the-variants.{NoSuchKept, TrimmedShort, BadCertificate, NotMarked}
 use Rattle.circuit.specs.declared.refusal.Check.{Check}
 use Rattle.circuit.specs.declared.refusal.Check.the-variants.{Passed, Refused}
 
--- the number of each ground: document 01's, request S-1's of 18 and 19, request S-5's of 20 to 22
+-- the number of each ground: document 01's, request S-1's of 18 and 19, request S-5's of 20 to 22, request S-8's of 23
 abbrev pub groundNumber : Ground → ℕ
 groundNumber TableTooLong = 1
 groundNumber TableNotWhole = 2
@@ -33,6 +33,7 @@ groundNumber SizeTooLarge = 19
 groundNumber NoSuchKept = 20
 groundNumber TrimmedShort = 21
 groundNumber BadCertificate = 22
+groundNumber NotMarked = 23
 
 -- refused on a ground, at a place, where the test holds; else what is tried next
 abbrev pub refuse : Ground → ℕ → Bool → Check → Check

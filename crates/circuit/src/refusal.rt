@@ -25,6 +25,7 @@ pub enum Ground {
     NoSuchKept,
     TrimmedShort,
     BadCertificate,
+    NotMarked,
 }
 
 // No ground holds, or the first that does, with its place.
@@ -60,5 +61,6 @@ pub fn ground_number(ground: Ground) -> u64
         Ground::NoSuchKept => 20,
         Ground::TrimmedShort => 21,
         Ground::BadCertificate => 22,
+        Ground::NotMarked => 23,
     }
 }

@@ -52,7 +52,8 @@ rule-local (Multiplexer w a b c) s t h = rw (h a (member-1 _ _), h b (member-2 _
 rule-local (Register w a n) s t h = rw (h a (member-1 _ _))
 rule-local (Enabled w a b n) s t h = rw (h a (member-1 _ _), h b (member-2 _ _ _))
 
-rule-mono : (r : Record) (s t : ℕ → Fact) → ((u : ℕ) → T (member u (uses r)) → s u ⊑ t u) → ruleOf r s ⊑ ruleOf r t
+-- a record's rule is monotone in the facts of what it uses
+pub rule-mono : (r : Record) (s t : ℕ → Fact) → ((u : ℕ) → T (member u (uses r)) → s u ⊑ t u) → ruleOf r s ⊑ ruleOf r t
 unfolding ruleOf
 rule-mono (Input w k) s t h = itself
 rule-mono (Constant w n) s t h = itself

@@ -19,7 +19,7 @@ pub fn byte(f: Fact) -> u8
     }
 }
 
-fn number(f: Fact) -> u32
+pub fn number(f: Fact) -> u32
     ensures { λ r. ⌜ r ≡ factNumber f ⌝ }
 {
     match f {

@@ -1,12 +1,12 @@
 -- What an answer shows stands in the buffers that the call leaves, and when a refusal has a second line.
 -- Assumes nothing.
-use mathlib.Core.Path.{_≡_}
+use mathlib.Core.Path.{_≡_, ap}
 use mathlib.Core.Logic.{⊎-elim}
 use mathlib.Core.List.{List, _++_}
 use Prim.Native.Nat.{ℕ, _*_, _/_, _≤_}
 use native.Mathlib.Omega.{arith}
 use borrow.Author.Tests.{eq-eqb, ne-eqb}
-use lib.ListN.{length}
+use lib.ListN.{length, drop, length-append}
 use Rattle.circuit.specs.declared.refusal.Ground.{Ground}
 use Rattle.circuit.specs.declared.refusal.Check.the-variants.{Passed}
 use Rattle.circuit.specs.Refusal.{groundNumber}
@@ -23,14 +23,16 @@ use Rattle.bill.proofs.Promise.{accepted-small, refused-small}
 use Rattle.trim.specs.Promise as trims
 use Rattle.trim.proofs.Grounds.{trimmable}
 use Rattle.trim.proofs.Promise.{accepted-few}
-use Rattle.text.specs.Text.{refusalLine, loopLine, refusalText}
-use Rattle.text.specs.Prints.{ShowsRow, AnswerStands, BillStands}
+use Rattle.path.specs.Promise as traced
+use Rattle.path.proofs.Promise.{path-refusals, path-short, path-some}
+use Rattle.text.specs.Text.{refusalLine, rowLine, refusalText}
+use Rattle.text.specs.Prints.{ShowsRow, AnswerStands, PathStands, BillStands}
 use Rattle.text.specs.declared.Report.{Report}
 use Rattle.text.specs.declared.Report.the-variants.{Bytes, Line}
 use Rattle.text.specs.Reports.{Tells, Within, writtenBytes}
 
 module _ (g : Ground) (place : ℕ) (s : List ℕ) where
-  pub loop-text : groundNumber g ≡ 11 → refusalText g place s ≡ refusalLine g place ++ loopLine s place
+  pub loop-text : groundNumber g ≡ 11 → refusalText g place s ≡ refusalLine g place ++ rowLine s place
   unfolding refusalText
   loop-text e = rw (eq-eqb (groundNumber g) 11 e, refusalText)
 
@@ -71,6 +73,27 @@ benched-stands s t values scratch values′ scratch′ long a p =
     (checkStimuli (circuitOf (lent t values scratch)) s) (λ g place h. h .0)
     (stimuli-refusals (circuitOf (lent t values scratch)) s)) benched.each a p
     (λ ok. omega (arith, outputs-lent (benched.benching s) (lent t values scratch) ok .0))
+
+-- an accepted path has some variables, at most 4,096, and they stand in the row
+pub traced-stands : (v : ℕ) (t row scratch row′ scratch′ : List ℕ) (a : Answer)
+    → Promises (traced.tracing v) (lent t row scratch) (left row′ scratch′) a
+    → PathStands a (length row′) (length scratch′)
+traced-stands v t row scratch row′ scratch′ (accepted k) p =
+    let found = p .accepts in (
+      path-some p,
+      omega (
+        arith,
+        found .row-length,
+        ap (λ (outputs : List (List ℕ)). length (outputOf outputs)) (found .written),
+        length-append (found .row) (drop k row),
+      ),
+      path-short p,
+    )
+traced-stands v t row scratch row′ scratch′ (refused g place) p =
+    let l = lent t row scratch in
+    row-stands (traced.tracing v) l (left row′ scratch′)
+    (refusals-weaken (λ g place. (groundNumber g ≡ 23) × (place ≡ v)) (λ g place. 12 ≤ groundNumber g)
+    (traced.checkMarked (circuitOf l) v) (λ g place h. omega (arith, h .0)) (path-refusals v l)) g place p
 
 pub billed-stands : (sizes shares shares′ : List ℕ) → length shares′ ≡ length shares → (a : Answer)
     → Bills sizes shares shares′ a → BillStands a (length sizes) (length shares′)

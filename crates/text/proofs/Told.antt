@@ -1,65 +1,61 @@
 -- The text tells the answer: two answers of a call that are printed alike are the same.
 -- Assumes nothing.
 use mathlib.Core.Path.{_≡_, refl, sym, ap, ap₂, _∙_}
+use mathlib.Core.Bool.{true}
 use mathlib.Core.List.{List, [], _∷_, _++_, append-assoc, append-nil}
-use Prim.Native.Nat.{ℕ, zero, suc, _+_, _/_, _%_, _<_}
-use native.Mathlib.Decide.{decLt}
+use Prim.Native.Nat.{ℕ, zero, suc, _+_, _-_, _≤_, _<_}
 use native.Mathlib.Omega.{arith}
+use lib.ListN.{length, getD}
+use Rattle.net.specs.Tests.{every}
 use Rattle.net.proofs.Cases.{by-same}
 use Rattle.circuit.specs.declared.refusal.Ground.{Ground}
 use Rattle.circuit.specs.Refusal.{groundNumber}
 use Rattle.circuit.proofs.Places.{ground-told}
+use Rattle.circuit.proofs.Stimuli.{both-true}
 use Rattle.call.specs.Call.{Answer, accepted, refused}
-use Rattle.text.specs.Text.{digits, decimal, isRefused, rounds, bill, refusalLine, loopLine}
-use Rattle.text.specs.Text.{pieces, refusalText, certifiedText, benchedText, billedText, answerText}
-use Rattle.text.specs.Words.{value}
-use Rattle.text.proofs.Decimal.{digits-one, digits-more}
-use Rattle.text.proofs.Words.{digits-value}
+use Rattle.text.specs.Text.{decimal, newline, isRefused, rounds, bill, refusalLine, pieces, spaced, rowLine}
+use Rattle.text.specs.Text.{refusalText, certifiedText, benchedText, billedText, pathText, answerText}
+use Rattle.text.specs.Words.{isDigit, value}
+use Rattle.text.proofs.Decimal.{decimal-some}
+use Rattle.text.proofs.Words.{digit-at, digits-value, decimal-digits}
 use Rattle.text.proofs.Answers.{loop-text, other-text}
 
 -- ---- a number, up to what ends it
 
--- d stands nowhere in the list
-abbrev Without : ℕ → List ℕ → Type 0
-Without d [] = Unit {0}
-Without d (x ∷ xs) = (x ≡ d → ⊥) × Without d xs
-
-without-append : (d : ℕ) (xs ys : List ℕ) → Without d xs → Without d ys → Without d (xs ++ ys)
-without-append d [] ys w w′ = w′
-without-append d (x ∷ xs) ys w w′ = (w .0, without-append d xs ys (w .1) w′)
-
--- what stands before the first d, and what stands behind it
-split : (d : ℕ) (xs ys r r′ : List ℕ) → Without d xs → Without d ys → xs ++ (d ∷ r) ≡ ys ++ (d ∷ r′)
-    → (xs ≡ ys) × (r ≡ r′)
-split d [] [] r r′ w w′ e = (refl, cc)
-split d [] (y ∷ ys) r r′ w w′ e = absurd (w′ .0 (cc))
-split d (x ∷ xs) [] r r′ w w′ e = absurd (w .0 (cc))
-split d (x ∷ xs) (y ∷ ys) r r′ w w′ e =
+-- digits, the first other byte behind them, and what stands behind that
+split : (d d′ : ℕ) (xs ys r r′ : List ℕ) → d < 48 → d′ < 48 → every isDigit xs ≡ true → every isDigit ys ≡ true
+    → xs ++ (d ∷ r) ≡ ys ++ (d′ ∷ r′) → (xs ≡ ys) × (d ≡ d′) × (r ≡ r′)
+unfolding every
+split d d′ [] [] r r′ low low′ w w′ e = (refl, cc, cc)
+split d d′ [] (y ∷ ys) r r′ low low′ w w′ e =
+    let same : d ≡ y = cc in absurd (omega (arith, digit-at (y ∷ ys) 0 w′ (omega arith) .0))
+split d d′ (x ∷ xs) [] r r′ low low′ w w′ e =
+    let same : x ≡ d′ = cc in absurd (omega (arith, digit-at (x ∷ xs) 0 w (omega arith) .0))
+split d d′ (x ∷ xs) (y ∷ ys) r r′ low low′ w w′ e =
     let same : x ≡ y = cc in
-    let rest : xs ++ (d ∷ r) ≡ ys ++ (d ∷ r′) = cc in
-    let (p, q) = split d xs ys r r′ (w .1) (w′ .1) rest in
-    (ap₂ (λ (z : ℕ) (zs : List ℕ). z ∷ zs) same p, q)
+    let both : xs ++ (d ∷ r) ≡ ys ++ (d′ ∷ r′) = cc in
+    let (digits, end, rest) =
+    split d d′ xs ys r r′ low low′ (both-true (isDigit x) (every isDigit xs) w .1)
+    (both-true (isDigit y) (every isDigit ys) w′ .1) both in
+    (ap₂ (λ (z : ℕ) (zs : List ℕ). z ∷ zs) same digits, end, rest)
 
-digits-without : (d fuel n : ℕ) → d < 48 → Without d (digits fuel n)
-unfolding digits
-digits-without d zero n low = tt
-digits-without d (suc fuel) n low =
-    elim (decLt n 10) [
-      | yes l ↦ rw (digits-one fuel n l) (λ e. omega arith, tt)
-      | no l ↦
-          rw (digits-more fuel n (omega arith))
-          (without-append d (digits fuel (n / 10)) ((48 + n % 10) ∷ []) (digits-without d fuel (n / 10) low)
-          (λ e. omega arith, tt))
-    ]
-
--- a number in base ten, ended by a byte that is no digit, and what stands behind
-decimal-told : (d m n : ℕ) (r r′ : List ℕ) → d < 48 → decimal m ++ (d ∷ r) ≡ decimal n ++ (d ∷ r′)
-    → (m ≡ n) × (r ≡ r′)
+-- a number in base ten, ended by a byte that is no digit, that byte and what stands behind
+decimal-told : (d d′ m n : ℕ) (r r′ : List ℕ) → d < 48 → d′ < 48 → decimal m ++ (d ∷ r) ≡ decimal n ++ (d′ ∷ r′)
+    → (m ≡ n) × (d ≡ d′) × (r ≡ r′)
 unfolding decimal
-decimal-told d m n r r′ low e =
-    let (same, rest) =
-    split d (decimal m) (decimal n) r r′ (digits-without d (suc m) m low) (digits-without d (suc n) n low) e in
-    (sym (digits-value (suc m) m (omega arith)) ∙ ap (value 0) same ∙ digits-value (suc n) n (omega arith), rest)
+decimal-told d d′ m n r r′ low low′ e =
+    let (same, end, rest) =
+    split d d′ (decimal m) (decimal n) r r′ low low′ (decimal-digits m) (decimal-digits n) e in
+    (sym (digits-value (suc m) m (omega arith)) ∙ ap (value 0) same ∙ digits-value (suc n) n (omega arith), end, rest)
+
+-- a number begins with no letter
+number-apart : (n b : ℕ) (r r′ : List ℕ) → 57 < b → decimal n ++ r ≡ b ∷ r′ → ⊥
+number-apart n b r r′ letter e = first (decimal n) (decimal-some n) (decimal-digits n) e
+  where
+    first : (xs : List ℕ) → 1 ≤ length xs → every isDigit xs ≡ true → xs ++ r ≡ b ∷ r′ → ⊥
+    first [] some w same = omega arith
+    first (x ∷ xs) some w same =
+        let here : x ≡ b = cc in omega (arith, digit-at (x ∷ xs) 0 w (omega arith) .1)
 
 -- ---- lines
 
@@ -70,10 +66,11 @@ append-told (z ∷ p) x y e = append-told p x y (cc)
 refusal-told : (g h : Ground) (i j : ℕ) (r r′ : List ℕ) → refusalLine g i ++ r ≡ refusalLine h j ++ r′
     → refused g i ≡ refused h j
 refusal-told g h i j r r′ e =
-    let (number, places) =
-    decimal-told 32 (groundNumber g) (groundNumber h) _ _ (omega arith)
+    let (number, _, places) =
+    decimal-told 32 32 (groundNumber g) (groundNumber h) _ _ (omega arith) (omega arith)
     (append-told isRefused _ _ (simp append-assoc at e)) in
-    let (place, _) = decimal-told 10 i j r r′ (omega arith) (append-told (97 ∷ 116 ∷ 32 ∷ []) _ _ places) in
+    let (place, _, _) =
+    decimal-told 10 10 i j r r′ (omega arith) (omega arith) (append-told (97 ∷ 116 ∷ 32 ∷ []) _ _ places) in
     ap₂ refused (ground-told g h number) place
 
 -- a refusal begins with its line
@@ -81,8 +78,24 @@ refusal-begins : (g : Ground) (place : ℕ) (s : List ℕ)
     → (r : List ℕ) × (refusalText g place s ≡ refusalLine g place ++ r)
 refusal-begins g place s =
     by-same (groundNumber g) 11
-    (λ e. (loopLine s place, loop-text g place s e))
+    (λ e. (rowLine s place, loop-text g place s e))
     (λ ne. ([], other-text g place s ne ∙ sym (append-nil (refusalLine g place))))
+
+-- the numbers of a row behind one of them: how many there are
+row-told : (s s′ : List ℕ) (count count′ i i′ x x′ : ℕ)
+    → decimal x ++ (pieces (spaced s) count i ++ newline) ≡ decimal x′ ++ (pieces (spaced s′) count′ i′ ++ newline)
+    → count ≡ count′
+unfolding pieces
+row-told s s′ zero zero i i′ x x′ e = refl
+row-told s s′ zero (suc count′) i i′ x x′ e =
+    absurd (omega (arith, decimal-told 10 32 x x′ _ _ (omega arith) (omega arith) e .1))
+row-told s s′ (suc count) zero i i′ x x′ e =
+    absurd (omega (arith, decimal-told 32 10 x x′ _ _ (omega arith) (omega arith) e .1))
+row-told s s′ (suc count) (suc count′) i i′ x x′ e =
+    let (_, _, rest) = decimal-told 32 32 x x′ _ _ (omega arith) (omega arith) e in
+    ap suc
+    (row-told s s′ count count′ (i + 1) (i′ + 1) (getD s i 0) (getD s′ i′ 0)
+    (sym (append-assoc (decimal (getD s i 0)) _ newline) ∙ rest ∙ append-assoc (decimal (getD s′ i′ 0)) _ newline))
 
 -- ---- answers
 
@@ -110,15 +123,16 @@ pub certified-told : (cells cells′ : List ℕ) (n n′ : ℕ) (a a′ : Answer
     → answerText (certifiedText cells n) a s ≡ answerText (certifiedText cells′ n′) a′ s′ → a ≡ a′
 certified-told cells cells′ n n′ a a′ s s′ =
     text-told (certifiedText cells n) (certifiedText cells′ n′) a a′ s s′
-    (λ k k′ _ _ e. decimal-told 10 k k′ _ _ (omega arith) (append-told rounds _ _ (simp append-assoc at e)) .0)
+    (λ k k′ _ _ e.
+    decimal-told 10 10 k k′ _ _ (omega arith) (omega arith) (append-told rounds _ _ (simp append-assoc at e)) .0)
     (rounds-apart cells n) (rounds-apart cells′ n′)
 
--- the first byte of a number is no letter
 values-apart : (values : List ℕ) (n k : ℕ) (g : Ground) (place : ℕ) (r : List ℕ)
     → benchedText values n k ≡ refusalLine g place ++ r → ⊥
-unfolding pieces decimal digits
+unfolding pieces
 values-apart values zero k g place r e = let z : _≡_ {A = ℕ} 0 1 = cc in omega arith
-values-apart values (suc n) k g place r e = let z : _≡_ {A = ℕ} 48 114 = cc in omega arith
+values-apart values (suc n) k g place r e =
+    number-apart 0 114 _ _ (omega arith) (sym (append-assoc (decimal 0) _ _) ∙ e)
 
 pub benched-told : (values values′ : List ℕ) (n n′ : ℕ) (a a′ : Answer) (s s′ : List ℕ)
     → ((k : ℕ) → a ≡ accepted k → k ≡ 0) → ((k : ℕ) → a′ ≡ accepted k → k ≡ 0)
@@ -136,5 +150,18 @@ pub billed-told : (shares shares′ : List ℕ) (n n′ : ℕ) (a a′ : Answer)
     → answerText (billedText shares n) a [] ≡ answerText (billedText shares′ n′) a′ [] → a ≡ a′
 billed-told shares shares′ n n′ a a′ =
     text-told (billedText shares n) (billedText shares′ n′) a a′ [] []
-    (λ k k′ _ _ e. decimal-told 10 k k′ _ _ (omega arith) (append-told bill _ _ (simp append-assoc at e)) .0)
+    (λ k k′ _ _ e.
+    decimal-told 10 10 k k′ _ _ (omega arith) (omega arith) (append-told bill _ _ (simp append-assoc at e)) .0)
     (bill-apart shares n) (bill-apart shares′ n′)
+
+path-apart : (row : List ℕ) (n k : ℕ) (g : Ground) (place : ℕ) (r : List ℕ)
+    → pathText row n k ≡ refusalLine g place ++ r → ⊥
+path-apart row n k g place r e = number-apart (getD row 0 0) 114 _ _ (omega arith) e
+
+pub traced-told : (row row′ : List ℕ) (n n′ : ℕ) (a a′ : Answer) (s s′ : List ℕ)
+    → ((k : ℕ) → a ≡ accepted k → 1 ≤ k) → ((k : ℕ) → a′ ≡ accepted k → 1 ≤ k)
+    → answerText (pathText row n) a s ≡ answerText (pathText row′ n′) a′ s′ → a ≡ a′
+traced-told row row′ n n′ a a′ s s′ some some′ =
+    text-told (pathText row n) (pathText row′ n′) a a′ s s′
+    (λ k k′ is is′ e. omega (arith, some k is, some′ k′ is′, row-told row row′ (k - 1) (k′ - 1) 1 1 _ _ e))
+    (path-apart row n) (path-apart row′ n′)

@@ -112,6 +112,10 @@ digits-alone (suc fuel) n =
     last : (d : ℕ) → d < 10 → every isDigit ((48 + d) ∷ []) ≡ true
     last d h = rw (digit-is d h)
 
+pub decimal-digits : (n : ℕ) → every isDigit (decimal n) ≡ true
+unfolding decimal
+decimal-digits n = digits-alone (suc n) n
+
 -- what is printed of a number reads as that number
 pub decimal-read : (n : ℕ) → n < 2 ^ 32 → readNumber (decimal n) ≡ Number n
 unfolding decimal
@@ -119,7 +123,7 @@ decimal-read n h =
     rw (
       readNumber,
       ne-eqb (length (decimal n)) 0 (λ e. omega (arith, decimal-some n)),
-      digits-alone (suc n) n,
+      decimal-digits n,
       digits-value (suc n) n (omega arith),
     )
     (number-told n h)

@@ -10,14 +10,23 @@ use Rattle.call.specs.Call.{Lent, Left, Answer, accepted, refused, Call, output
 use Rattle.bill.specs.Order.{mostSizes}
 use Rattle.text.specs.Text.{answerText}
 
+-- a row of so many numbers stands in a buffer of a length, and its line fits
+abbrev pub RowStands : ℕ → ℕ → Type 0
+RowStands size buffer = (1 ≤ size) × (size ≤ buffer) × (size ≤ 4096)
+
 -- for ground 11, the row stands in the scratch and its line fits
 abbrev pub ShowsRow : Ground → ℕ → ℕ → Type 0
-ShowsRow g place scratch = groundNumber g ≡ 11 → (1 ≤ place) × (place ≤ scratch) × (place ≤ 4096)
+ShowsRow g place scratch = groundNumber g ≡ 11 → RowStands place scratch
 
 -- what an answer shows stands in buffers of these lengths: `each` of the output a record where it is accepted
 abbrev pub AnswerStands : ℕ → Answer → ℕ → ℕ → ℕ → Type 0
 AnswerStands each (accepted k) n output scratch = (n ≤ 4096) × (n * each ≤ output)
 AnswerStands each (refused g place) n output scratch = ShowsRow g place scratch
+
+-- what the path call's answer shows stands in buffers of these lengths: the path in the row
+abbrev pub PathStands : Answer → ℕ → ℕ → Type 0
+PathStands (accepted k) row scratch = RowStands k row
+PathStands (refused g place) row scratch = ShowsRow g place scratch
 
 -- what an order's answer shows stands in a buffer of so many shares: one a size; a refusal shows no row
 abbrev pub BillStands : Answer → ℕ → ℕ → Type 0

@@ -1,5 +1,5 @@
--- What the programs print: numbers in base ten, the lines of a refusal, of a certificate, of values, of a bill and of
--- old numbers. A text is the list of its bytes, in ASCII; each word below has its characters beside it.
+-- What the programs print: numbers in base ten, the lines of a refusal, of a certificate, of values, of a bill, of old
+-- numbers and of a path. A text is the list of its bytes, in ASCII; each word below has its characters beside it.
 -- Assumes nothing.
 use mathlib.Core.Bool.{true, false}
 use mathlib.Core.List.{List, [], _∷_, _++_}
@@ -68,13 +68,13 @@ unfoldable pub pieces : (ℕ → List ℕ) → ℕ → ℕ → List ℕ
 pieces text zero i = []
 pieces text (suc count) i = text i ++ pieces text count (i + 1)
 
--- number i of the scratch with a space before it
+-- number i of a buffer with a space before it
 abbrev pub spaced : List ℕ → ℕ → List ℕ
 spaced s i = space ++ decimal (getD s i 0)
 
--- a loop's line: the first numbers of the scratch, as many as the loop has, single spaces between
-abbrev pub loopLine : List ℕ → ℕ → List ℕ
-loopLine s size = decimal (getD s 0 0) ++ (pieces (spaced s) (size - 1) 1 ++ newline)
+-- the line of a loop or a path: the first numbers of its buffer, as many as it has, single spaces between
+abbrev pub rowLine : List ℕ → ℕ → List ℕ
+rowLine s size = decimal (getD s 0 0) ++ (pieces (spaced s) (size - 1) 1 ++ newline)
 
 -- a fact and, for always, its number
 abbrev pub factText : Fact → List ℕ
@@ -114,7 +114,7 @@ roundsLine k = numberLine rounds k
 unfoldable pub refusalText : Ground → ℕ → List ℕ → List ℕ
 refusalText g place s =
     elim (eqb (groundNumber g) 11) [
-      | true ↦ refusalLine g place ++ loopLine s place
+      | true ↦ refusalLine g place ++ rowLine s place
       | false ↦ refusalLine g place
     ]
 
@@ -129,6 +129,10 @@ benchedText values n k = valueLines values n
 -- all that is printed of an order of n sizes that is billed: the bill, and each size's share
 abbrev pub billedText : List ℕ → ℕ → ℕ → List ℕ
 billedText shares n k = numberLine bill k ++ valueLines shares n
+
+-- all that is printed of a marked variable's path, of k variables: from the row
+abbrev pub pathText : List ℕ → ℕ → ℕ → List ℕ
+pathText row n k = rowLine row k
 
 -- all that is printed of an answer: what an accepted one shows by the number that it carries, or a refusal
 abbrev pub answerText : (ℕ → List ℕ) → Answer → List ℕ → List ℕ

@@ -10,15 +10,17 @@ ghost use Rattle.certificate.specs.Promise as certified;
 ghost use Rattle.machine.specs.Promise as benched;
 ghost use Rattle.bill.specs.Promise as billed;
 ghost use Rattle.trim.specs.Promise as trims;
-ghost use Rattle.text.specs.Text.{refusalText, certifiedText, benchedText, billedText, answerText, numberLines};
+ghost use Rattle.path.specs.Promise as traced;
+ghost use Rattle.text.specs.Text.{refusalText, certifiedText, benchedText, billedText, pathText, answerText};
+ghost use Rattle.text.specs.Text.{rowLine, numberLines};
 ghost use Rattle.text.specs.Pieces.{Put};
-ghost use Rattle.text.specs.Prints.{ShowsRow, AnswerStands, BillStands, TextOf, PromisesInText};
+ghost use Rattle.text.specs.Prints.{ShowsRow, AnswerStands, PathStands, BillStands, TextOf, PromisesInText};
 ghost use Rattle.text.specs.Reports.{TellsRefusal, Tells, Within, BytesOf, PromisesInBytes, writtenBytes};
 use crate::lines::put_facts;
-use crate::lines::put_loop;
 use crate::lines::put_number_line;
 use crate::lines::put_numbers;
 use crate::lines::put_refusal;
+use crate::lines::put_row;
 use crate::lines::put_values;
 use bill::Billed;
 use bill::bill;
@@ -28,6 +30,8 @@ use circuit::refusal::Ground;
 use circuit::refusal::ground_number;
 use machine::Benched;
 use machine::bench;
+use path::Traced;
+use path::path;
 use trim::Trimmed;
 use trim::trim;
 
@@ -49,7 +53,7 @@ fn put_refused(out: &mut [u8], ground: Ground, place: usize, scratch: &[u16]) ->
 {
     let end = out.len();
     if ground_number(ground) == 11 {
-        let p = put_loop(out, end, scratch, place);
+        let p = put_row(out, end, scratch, place);
         return put_refusal(out, p, ground, place);
     }
     put_refusal(out, end, ground, place)
@@ -126,6 +130,19 @@ fn put_benched(out: &mut [u8], answer: Benched, n: usize, values: &[u32], scratc
     }
 }
 
+// The path call's answer.
+fn put_path(out: &mut [u8], answer: Traced, row: &[u16], scratch: &[u16]) -> usize
+    requires { ⌜ 131072 ≤ length (now out) ⌝ }
+    requires { ⌜ PathStands (traced.answerOf answer) (length (now row)) (length (now scratch)) ⌝ }
+    ensures { λ r. ⌜ Put (answerText (rowLine (now (row .entry))) (traced.answerOf answer) (now (scratch .entry)))
+        (now (out .entry)) (length (now (out .entry))) (now (out .exit)) r ⌝ }
+{
+    match answer {
+        Traced::Accepted(size) => put_row(out, out.len(), row, size),
+        Traced::Refused(ground, place) => put_refused(out, ground, place, scratch),
+    }
+}
+
 // The answer to an order of n sizes.
 fn put_billed(out: &mut [u8], answer: Billed, n: usize, shares: &[u32]) -> usize
     requires { ⌜ 2048 ≤ length (now out) ⌝ }
@@ -194,6 +211,24 @@ pub fn bench_text(
 {
     let answer = bench(table, stimuli, values, scratch);
     put_benched(out, answer, table.len() / 16, values, scratch)
+}
+
+// Finds a variable's path and makes the text of the answer. It stands in `out` from the place answered up to the end.
+pub fn path_text(
+    table: &[u8],
+    variable: u32,
+    row: &mut [u16],
+    scratch: &mut [u16],
+    out: &mut [u8; 131072],
+) -> usize
+    ensures { λ r. ⌜ PromisesInText (traced.tracing variable) pathText
+        (lent (now (table .entry)) (now (row .entry)) (now (scratch .entry)))
+        (left (now (row .exit)) (now (scratch .exit)))
+        (now (out .entry)) (now (out .exit)) r ⌝ }
+    ensures { λ r. ⌜ (r ≤ 131072) × (131072 ≤ length (now (out .exit))) ⌝ }
+{
+    let answer = path(table, variable, row, scratch);
+    put_path(out, answer, row, scratch)
 }
 
 // Bills an order of these sizes and makes the text of the answer. It stands in `out` from the place answered up to the

@@ -1,8 +1,8 @@
-// Lines of what the programs print: a refusal, a loop, a variable's fact or value, a number alone or with a word before
-// it.
+// Lines of what the programs print: a refusal, a loop or a path, a variable's fact or value, a number alone or with a
+// word before it.
 ghost use Prim.Native.Nat.{_+_, _-_, _*_, _≤_, _<_};
 ghost use lib.ListN.{length};
-ghost use Rattle.text.specs.Text.{refusalLine, pieces, spaced, loopLine};
+ghost use Rattle.text.specs.Text.{refusalLine, pieces, spaced, rowLine};
 ghost use Rattle.text.specs.Text.{factText, factLine, factLines, valueLine, valueLines, numberLine, numberLines};
 ghost use Rattle.text.specs.Pieces.{Put};
 use crate::put::put_byte;
@@ -25,10 +25,10 @@ pub fn put_refusal(out: &mut [u8], at: usize, ground: Ground, place: usize) -> u
     put_word(out, s, b"refused ")
 }
 
-// The numbers of a loop from number 1 on, each with a space before it.
-fn put_spaced(out: &mut [u8], at: usize, scratch: &[u16], size: usize) -> usize
-    requires { ⌜ (1 ≤ size) × (size ≤ length (now scratch)) × (size * 6 ≤ at) × (at ≤ length (now out)) ⌝ }
-    ensures { λ r. ⌜ Put (pieces (spaced (now (scratch .entry))) (size - 1) 1)
+// The numbers of a row from number 1 on, each with a space before it.
+fn put_spaced(out: &mut [u8], at: usize, row: &[u16], size: usize) -> usize
+    requires { ⌜ (1 ≤ size) × (size ≤ length (now row)) × (size * 6 ≤ at) × (at ≤ length (now out)) ⌝ }
+    ensures { λ r. ⌜ Put (pieces (spaced (now (row .entry))) (size - 1) 1)
         (now (out .entry)) at (now (out .exit)) r ⌝ }
     ensures { λ r. ⌜ at ≤ r + (size - 1) * 6 ⌝ }
 {
@@ -36,20 +36,21 @@ fn put_spaced(out: &mut [u8], at: usize, scratch: &[u16], size: usize) -> usize
     let mut p = at;
     while i > 1 {
         i -= 1;
-        let q = put_number(out, p, wide(scratch[i]) as u64);
+        let q = put_number(out, p, wide(row[i]) as u64);
         p = put_byte(out, q, 32);
     }
     p
 }
 
-pub fn put_loop(out: &mut [u8], at: usize, scratch: &[u16], size: usize) -> usize
-    requires { ⌜ (1 ≤ size) × (size ≤ length (now scratch)) × (size * 6 + 1 ≤ at) × (at ≤ length (now out)) ⌝ }
-    ensures { λ r. ⌜ Put (loopLine (now (scratch .entry)) size) (now (out .entry)) at (now (out .exit)) r ⌝ }
+// The line of a loop or a path, whose numbers stand in front.
+pub fn put_row(out: &mut [u8], at: usize, row: &[u16], size: usize) -> usize
+    requires { ⌜ (1 ≤ size) × (size ≤ length (now row)) × (size * 6 + 1 ≤ at) × (at ≤ length (now out)) ⌝ }
+    ensures { λ r. ⌜ Put (rowLine (now (row .entry)) size) (now (out .entry)) at (now (out .exit)) r ⌝ }
     ensures { λ r. ⌜ at ≤ r + size * 6 ⌝ }
 {
     let end = put_byte(out, at, 10);
-    let p = put_spaced(out, end, scratch, size);
-    put_number(out, p, wide(scratch[0]) as u64)
+    let p = put_spaced(out, end, row, size);
+    put_number(out, p, wide(row[0]) as u64)
 }
 
 fn put_fact(out: &mut [u8], at: usize, f: Fact) -> usize

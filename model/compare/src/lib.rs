@@ -39,6 +39,16 @@ extern "C" {
         scratch: *mut u16,
         scratch_len: usize,
     ) -> u64;
+
+    fn lambdac_path(
+        table: *const u8,
+        table_len: usize,
+        variable: u32,
+        row: *mut u16,
+        row_len: usize,
+        scratch: *mut u16,
+        scratch_len: usize,
+    ) -> u64;
 }
 
 /// The archive's certifying call: the count of rounds, or the refusal.
@@ -103,6 +113,23 @@ pub fn trim(
             trimmed.len(),
             numbers.as_mut_ptr(),
             numbers.len(),
+            scratch.as_mut_ptr(),
+            scratch.len(),
+        )
+    };
+    unpacked(answer)
+}
+
+/// The archive's tracing call: the row's length, or the refusal.
+pub fn path(table: &[u8], variable: u32, row: &mut [u16], scratch: &mut [u16]) -> Result<u32, Refusal> {
+    // SAFETY: each pointer and length are those of one slice, and borrowed slices do not overlap.
+    let answer = unsafe {
+        lambdac_path(
+            table.as_ptr(),
+            table.len(),
+            variable,
+            row.as_mut_ptr(),
+            row.len(),
             scratch.as_mut_ptr(),
             scratch.len(),
         )

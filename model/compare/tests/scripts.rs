@@ -1,5 +1,5 @@
-//! The commands bin/certify, bin/bench, bin/bill and bin/trim, by lines of a shell in the repository's root: the
-//! exit status, and whether anything stands on standard output and on standard error.
+//! The commands bin/certify, bin/bench, bin/bill, bin/trim and bin/path, by lines of a shell in the repository's
+//! root: the exit status, and whether anything stands on standard output and on standard error.
 
 use std::process::Command;
 
@@ -90,6 +90,46 @@ fn statuses_of_trim() {
     }
 }
 
+/// The lines name an example's table.
+#[test]
+fn statuses_of_path() {
+    for (line, status, printed) in [
+        ("bin/path $table 30", 0, OUTPUT),
+        ("bin/path $table 0", 0, OUTPUT),
+        ("bin/path $table 0030", 0, OUTPUT),
+        ("bin/path /dev/stdin 30 < $table", 0, OUTPUT),
+        ("cat $table | bin/path /dev/stdin 30", 0, OUTPUT),
+        ("bin/path /dev/fd/3 30 3< $table", 0, OUTPUT),
+        ("bin/path <(cat $table) 30", 0, OUTPUT),
+        ("cd examples/pin_check && ../../bin/path table 30", 0, OUTPUT),
+        ("bin/path $table 1", 1, OUTPUT),
+        ("bin/path $table 31", 1, OUTPUT),
+        ("bin/path $table 65566", 1, OUTPUT),
+        ("bin/path $table 4294967295", 1, OUTPUT),
+        ("bin/path /dev/null 0", 1, OUTPUT),
+        ("bin/path /dev/zero 0", 1, OUTPUT),
+        ("bin/path examples/pin_check/stimuli 0", 1, OUTPUT),
+        ("bin/path examples/latch_loop/table 0", 1, OUTPUT),
+        ("bin/path $table 4294967296", 2, ERRORS),
+        ("bin/path $table -1", 2, ERRORS),
+        ("bin/path $table +1", 2, ERRORS),
+        ("bin/path $table '3 0'", 2, ERRORS),
+        ("bin/path $table $'30\\n'", 2, ERRORS),
+        ("bin/path /dev/zero x", 2, ERRORS),
+        ("bin/path - 30 < $table", 2, ERRORS),
+        ("bin/path -- $table 30", 2, ERRORS),
+        ("bin/path --bytes $table", 2, ERRORS),
+        ("bin/path $table", 2, ERRORS),
+        ("bin/path $table 30 20", 2, ERRORS),
+        ("timeout 20 bin/path /dev/stdin 30 <&-", 2, ERRORS),
+        ("bin/path $table 30 > /dev/full", 2, ERRORS),
+        ("bin/path $table 30 >&-", 2, ERRORS),
+        ("bin/path $table 1 > /dev/full", 2, ERRORS),
+    ] {
+        assert_ends(&format!("table=examples/pin_check/table; {line}"), status, printed);
+    }
+}
+
 #[test]
 fn neither_could_be_said() {
     let calls = ["bin/certify", "bin/certify --bytes", "bin/bench examples/case_a/table"];
@@ -105,7 +145,8 @@ fn neither_could_be_said() {
         "bin/trim examples/case_a/table examples/case_a/certificate 7",
         "bin/trim examples/latch_loop/table /dev/null",
     ];
-    for call in calls.into_iter().chain(bills).chain(trims) {
+    let paths = ["bin/path", "bin/path examples/case_a/table", "bin/path examples/case_a/table 6"];
+    for call in calls.into_iter().chain(bills).chain(trims).chain(paths) {
         for rest in ["no_such_file", "examples", "''", "a b c", "--help"] {
             assert_ends(&format!("{call} {rest}"), 2, ERRORS);
         }
@@ -132,6 +173,10 @@ fn neither_could_be_said() {
         "bin/bill 4097 > /dev/full",
         "bin/trim",
         "bin/trim --numbers",
+        "bin/path",
+        "bin/path no_such_file 0",
+        "bin/path examples 0",
+        "bin/path '' 0",
     ] {
         assert_ends(line, 2, ERRORS);
     }
@@ -142,7 +187,7 @@ fn neither_could_be_said() {
 const COPY: &str = r#"
     rm -rf "$folder" && mkdir -p "$folder/crates" "$folder/target/bin" && cp -r bin "$folder" || exit
     cd "$folder" && touch crates.txt || exit
-    for program in certify bench bill_order trim_table; do
+    for program in certify bench bill_order trim_table trace_path; do
         printf '#!/bin/sh\necho refused 5 at 0 >&2\n%s\n' "$end" > target/bin/$program
         chmod +x target/bin/$program
     done
@@ -154,7 +199,9 @@ const COPY: &str = r#"
 fn programs_that_fail() {
     let folder = concat!(env!("CARGO_TARGET_TMPDIR"), "/programs that fail");
     for end in ["exit 3", "kill $$"] {
-        for call in ["certify /dev/null", "certify --bytes /dev/null", "bench a b", "bill", "trim a b"] {
+        for call in
+            ["certify /dev/null", "certify --bytes /dev/null", "bench a b", "bill", "trim a b", "path a 0"]
+        {
             let printed = format!("bin/{call} 2>&1 | grep -x 'refused 5 at 0'");
             assert_ends(&format!("folder='{folder}' end='{end}'{COPY}{printed}"), 2, OUTPUT);
         }

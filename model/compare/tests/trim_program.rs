@@ -18,9 +18,10 @@ use common::trims::{
 use common::{cases, constant, Random, Refused, MOST_RECORDS};
 use model::{read_records, Fact};
 use programs::{
-    assert_complains, loop_shown, no_numbers, run, Folder, Printed, TABLES_AROUND_THE_LONGEST, TOO_WIDE,
+    assert_complains, assert_names, lengthened, loop_shown, no_numbers, run, Folder, Printed,
+    TABLES_AROUND_THE_LONGEST, TOO_WIDE,
 };
-use std::path::{Path, PathBuf};
+use std::path::PathBuf;
 
 /// The most variables that the program takes.
 const MOST_VARIABLES: usize = 65_536;
@@ -440,12 +441,6 @@ fn words_that_are_too_long() {
     }
 }
 
-/// Asserts that on these arguments the program complains of this path.
-fn assert_names(arguments: &[PathBuf], path: &Path) {
-    let line = assert_complains("trim_table", arguments);
-    assert!(line.starts_with(&format!("trim: {}: ", path.display())), "{line:?} on {arguments:?}");
-}
-
 /// The table's file is read first, then the certificate's and then the words: the first that cannot be is named.
 #[test]
 fn files_that_cannot_be_read() {
@@ -460,7 +455,7 @@ fn files_that_cannot_be_read() {
             for words in [vec![], vec!["7"], vec!["65535"], vec!["65536"], vec!["7", "x"]] {
                 let words: Vec<PathBuf> = words.into_iter().map(Into::into).collect();
                 for arguments in both_forms(&[&files.map(PathBuf::clone)[..], &words].concat()) {
-                    assert_names(&arguments, &path);
+                    assert_names("trim_table", "trim", &arguments, &path);
                 }
             }
         }
@@ -473,16 +468,10 @@ fn the_longest_paths() {
     let folder = Folder::of_test("the longest paths");
     let given = Given::one_of_each();
     let [table, certificate] = folder.files(&given);
-    let longest = |name: &str| {
-        let folder = folder.0.display().to_string();
-        format!("{folder}{}{name}", "/".repeat(4095 - folder.len() - name.len()))
-    };
-    let [long_table, long_certificate] = ["table", "certificate"].map(longest);
-    let files = [(&long_table).into(), (&long_certificate).into()];
+    let files = ["table", "certificate"].map(|name| folder.longest_path(name));
     assert_eq!(run_both(&[&files[..], &words(&given.kept)].concat(), &[], 1), printed(&answer(&given)));
     for more in [1, 2, 1000, 100_000] {
-        let [long_table, long_certificate] =
-            [&long_table, &long_certificate].map(|path| PathBuf::from(path.clone() + &"x".repeat(more)));
+        let [long_table, long_certificate] = files.each_ref().map(|path| lengthened(path, more));
         for files in [[long_table, certificate.clone()], [table.clone(), long_certificate]] {
             for arguments in both_forms(&files) {
                 assert_complains("trim_table", &arguments);
@@ -506,9 +495,12 @@ fn words_that_do_not_ask_for_numbers() {
     let folder = Folder::of_test("words that do not ask for numbers");
     let files = folder.files(&Given::one_of_each());
     for word in ["--number", "--numberS", "--numbers?", "--numbers=7", "-numbers", "--bytes", "--", "-"] {
-        assert_names(&[&[word.into()], &files[..]].concat(), word.as_ref());
+        assert_names("trim_table", "trim", &[&[word.into()], &files[..]].concat(), word.as_ref());
     }
     let word = PathBuf::from("--numbers");
-    assert_names(&[&[word.clone(), word.clone()], &files[..]].concat(), &word);
-    assert_names(&[files[0].clone(), word.clone(), files[1].clone()], &word);
+    let twice = [&[word.clone(), word.clone()], &files[..]].concat();
+    let between = [files[0].clone(), word.clone(), files[1].clone()];
+    for arguments in [&twice[..], &between] {
+        assert_names("trim_table", "trim", arguments, &word);
+    }
 }

@@ -1,8 +1,8 @@
 //! A table and a list of stimuli that meet a given set of grounds, on one record of each sort; what is given to
-//! a trimming call that does, likewise; and an order that does.
+//! a trimming or a tracing call that does, likewise; and an order that does.
 
 use super::orders::{LARGEST_SIZE, MOST_SIZES};
-use super::samples::{changed, one_of_each, CONSTANT, FIXED, FREE, OPERATOR};
+use super::samples::{changed, one_of_each, CONSTANT, ENABLED, FIXED, FREE, OPERATOR};
 use super::trims::{certificate_of, Given};
 use super::{poke_bytes, StimulusBytes, MOST_RECORDS, MOST_STIMULI, TICK};
 
@@ -199,4 +199,58 @@ fn kept_that_meets(meets: impl Fn(u32) -> bool, place: usize) -> Vec<u16> {
         kept[place] = n;
     }
     kept
+}
+
+/// The grounds that a tracing call tries, in their order.
+pub const PATH_GROUNDS: [u32; 12] = [1, 2, 3, 4, 5, 6, 7, 8, 9, 10, 11, 23];
+
+/// Numbers that ground 23 turns away on one record of each sort: the variables that are open or always a number,
+/// and numbers past the table, of which some have a marked variable in their low 16 bits.
+pub const NOT_MARKED: [u32; 16] = [
+    FIXED as u32,
+    FREE as u32,
+    CONSTANT as u32,
+    OPERATOR as u32,
+    8,
+    9,
+    255,
+    256,
+    4095,
+    4096,
+    65_535,
+    65_536 + ENABLED as u32,
+    65_536 * 65_535 + ENABLED as u32,
+    1 << 31,
+    u32::MAX - 1,
+    u32::MAX,
+];
+
+/// Where a tracing call on one record of each sort meets those of its grounds that can be met at several places.
+#[derive(Debug, Clone, Copy)]
+pub struct PathFaults {
+    /// The register that meets 5 to 10.
+    pub register: usize,
+    /// The number that meets 23.
+    pub variable: u32,
+}
+
+impl PathFaults {
+    /// The first of these grounds, which are met, and its place.
+    pub fn first(&self, meets: impl Fn(u32) -> bool) -> Option<(u32, usize)> {
+        let ground = PATH_GROUNDS.into_iter().find(|&ground| meets(ground))?;
+        let place = match ground {
+            5..=10 => self.register,
+            11 => 1,
+            23 => self.variable as usize,
+            _ => 0,
+        };
+        Some((ground, place))
+    }
+
+    /// What meets each of these grounds but 3 and 4, which are about the buffers: a table and a number, which is
+    /// that of a marked variable but for 23.
+    pub fn given(&self, meets: impl Fn(u32) -> bool) -> (Vec<u8>, u32) {
+        let variable = if meets(23) { self.variable } else { ENABLED as u32 };
+        (table_that_meets(&meets, self.register), variable)
+    }
 }

@@ -4,10 +4,11 @@
 //! are in `document_cases`, those of registers with an enable in `enable_cases`, those of fixed inputs in
 //! `fixed_cases`, those of known zeros in `zero_cases`, further tables in `samples`, what meets a set of
 //! grounds in `grounds`, and bench runs in `hand_runs`. `orders` has orders and the call for a bill, `trims`
-//! the trimming call and what is given to it, `trim_cases` tables trimmed by hand, and `printed` the lines that
-//! the programs print. `two_runs` tries demand 3 on any two calls, `trimmed_runs` the claim of request S-5 on
-//! any three. `times` counts how often something occurs, and `fixed_pokes` how often lists poke fixed inputs
-//! early, late, twice or not at all.
+//! the trimming call and what is given to it, `trim_cases` tables trimmed by hand, `paths` the tracing call and
+//! tables to trace in, `path_cases` rows found by hand, and `printed` the lines that the programs print.
+//! `two_runs` tries demand 3 on any two calls, `trimmed_runs` the claim of request S-5 on any three. `times`
+//! counts how often something occurs, and `fixed_pokes` how often lists poke fixed inputs early, late, twice or
+//! not at all.
 
 #![allow(dead_code)] // each test file uses a part
 
@@ -18,6 +19,8 @@ pub mod fixed_pokes;
 pub mod grounds;
 pub mod hand_runs;
 pub mod orders;
+pub mod path_cases;
+pub mod paths;
 pub mod printed;
 pub mod samples;
 pub mod shapes;
@@ -192,7 +195,7 @@ pub fn certify_on(table: &[u8], certificate: usize, scratch: usize) -> Answer {
     let (mut after, mut scratch_after) = (before.clone(), scratch_before.clone());
     let answer = certify(table, &mut after, &mut scratch_after);
     check_output(answer, table.len() / 16 * 8, &before, &after);
-    let row = check_scratch(table, answer, &scratch_before, &scratch_after);
+    let row = check_scratch(table.len() / 16 * 4, answer, &scratch_before, &scratch_after);
     let count = answer.map_err(|refusal| refused(refusal, row))?;
     after.truncate(table.len() / 16 * 8);
     Ok((count, facts_of(&after)))
@@ -214,7 +217,7 @@ pub fn bench_on(table: &[u8], stimuli: &[u8], values: usize, scratch: usize) -> 
     let (mut after, mut scratch_after) = (before.clone(), scratch_before.clone());
     let answer = bench(table, stimuli, &mut after, &mut scratch_after);
     check_output(answer, table.len() / 16, &before, &after);
-    let row = check_scratch(table, answer, &scratch_before, &scratch_after);
+    let row = check_scratch(table.len() / 16 * 4, answer, &scratch_before, &scratch_after);
     answer.map_err(|refusal| refused(refusal, row))?;
     after.truncate(table.len() / 16);
     Ok(after)
@@ -257,9 +260,9 @@ fn check_output<T, V: PartialEq + std::fmt::Debug>(
     assert_eq!(before[written..], after[written..], "output");
 }
 
-/// The scratch is unchanged for 1 to 10. After that its part is the row of ground 11 and then 0, and what
-/// is past the part is unchanged. Gives the row, empty but for 11.
-fn check_scratch<T>(table: &[u8], answer: Result<T, Refusal>, before: &[u16], after: &[u16]) -> Vec<u16> {
+/// The scratch is unchanged for 1 to 10. After that its part, as long as asked, is the row of ground 11 and then
+/// 0, and what is past the part is unchanged. Gives the row, empty but for 11.
+fn check_scratch<T>(asked: usize, answer: Result<T, Refusal>, before: &[u16], after: &[u16]) -> Vec<u16> {
     let length = match answer {
         Err(Refusal { ground: 1..=10, .. }) => {
             assert_eq!(before, after, "scratch");
@@ -268,7 +271,7 @@ fn check_scratch<T>(table: &[u8], answer: Result<T, Refusal>, before: &[u16], af
         Err(Refusal { ground: 11, place }) => place,
         _ => 0,
     };
-    let (part, past) = after.split_at(table.len() / 16 * 4);
+    let (part, past) = after.split_at(asked);
     assert_eq!(before[part.len()..], *past, "past the scratch's part");
     let (row, rest) = part.split_at(length);
     assert!(rest.iter().all(|&number| number == 0), "the rest of the scratch's part");

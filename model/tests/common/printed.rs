@@ -1,6 +1,7 @@
 //! The lines that the programs print for what their calls answer.
 
 use super::orders::Billed;
+use super::paths::Traced;
 use super::{Answer, Refused, Values};
 use model::Fact;
 
@@ -32,6 +33,11 @@ pub fn printed_numbers(numbers: &[u16]) -> String {
     numbers.iter().map(|number| format!("{number}\n")).collect()
 }
 
+/// The lines that the program trace_path prints for an answer.
+pub fn printed_row(answer: &Traced) -> String {
+    printed(answer, |row| row_line(row))
+}
+
 /// The line of a refusal, which the programs that write bytes print alone.
 pub fn refusal_line(ground: u32, place: usize) -> String {
     format!("refused {ground} at {place}\n")
@@ -42,13 +48,18 @@ fn numbered_lines(numbers: &[u32]) -> String {
     numbers.iter().enumerate().map(|(index, n)| format!("{index} {n}\n")).collect()
 }
 
+/// A row of variables in one line, single spaces between.
+fn row_line(row: &[u16]) -> String {
+    let row: Vec<String> = row.iter().map(|variable| variable.to_string()).collect();
+    row.join(" ") + "\n"
+}
+
 /// The lines of an accepted call or, for a refusal, its line and for ground 11 a second one with the loop.
 fn printed<T>(answer: &Result<T, Refused>, accepted: impl Fn(&T) -> String) -> String {
     match answer {
         Ok(answer) => accepted(answer),
         Err(Refused { ground, place, row }) => {
-            let row: Vec<String> = row.iter().map(|variable| variable.to_string()).collect();
-            let line = if *ground == 11 { row.join(" ") + "\n" } else { String::new() };
+            let line = if *ground == 11 { row_line(row) } else { String::new() };
             refusal_line(*ground, *place) + &line
         }
     }

@@ -1,7 +1,7 @@
 //! Random tables of given shapes, without a loop: layers, deep chains of wires, chains of registers, the ring
-//! of registers that takes the most rounds, and gates, which zeros shut. Each is made with its uses pointing
-//! back, but for some of a register's, and can then be put in another order. In all of them some registers
-//! have an enable.
+//! of registers that takes the most rounds, gates, which zeros shut, lattices, which have many equally short rows
+//! of uses, and multiplexers with tied controls. Each is made with its uses pointing back, but for some of a
+//! register's, and can then be put in another order. In all of them some registers have an enable.
 
 use super::tables::{
     random_kind, random_record, random_stimuli, random_table, random_use, random_width, renumbered,
@@ -19,6 +19,12 @@ const REGISTERS: Mixture = [0, 0, 1, 1, 6, 4];
 
 /// The kinds of gates, which are operators, and of what they gate and are shut by.
 const GATES: Mixture = [4, 2, 6, 0, 4, 1];
+
+/// The kinds of a lattice behind its first layer, without inputs and constants.
+const LATTICE: Mixture = [0, 0, 6, 3, 3, 3];
+
+/// The kinds of multiplexers with tied controls, and of what they choose from.
+const CHOICES: Mixture = [1, 0, 6, 16, 6, 3];
 
 /// The operators that a known zero can decide.
 const DECIDED: [Operator; 4] = [Operator::And, Operator::Less, Operator::ShiftLeft, Operator::ShiftRight];
@@ -106,6 +112,38 @@ pub fn gates(random: &mut Random, n: usize) -> Table {
     table
 }
 
+/// A lattice: layers of a random size, the first of inputs that mostly are secret, and none further on, so that
+/// rows of uses from a variable to a secret input are equally long. In half of the lattices a record may use one
+/// of its own layer too, which makes some rows longer.
+pub fn lattice(random: &mut Random, n: usize) -> Table {
+    let (size, within) = (1 + random.below(n.min(8)), random.percent(50));
+    let mut table = shaped(random, n, &LATTICE, |i| {
+        let layer = i / size * size;
+        layer.saturating_sub(size)..if within && layer > 0 { i } else { layer }
+    });
+    for record in &mut table[..size] {
+        if random.percent(60) {
+            *record = secret(record[1]);
+        }
+    }
+    table
+}
+
+/// Multiplexers, most of them with a control that is always 0 or always another number: a constant or a register,
+/// which stand in front with a secret input. Behind it they choose between what is nearer to it and farther.
+pub fn tied(random: &mut Random, n: usize) -> Table {
+    let controls = [constant(1, 0), constant(4, 4), register(1, 0, 0), register(4, 4, 1)];
+    let front = [&controls[..], &[secret(8)]].concat();
+    let mut table = shaped(random, n.max(2 * front.len()), &CHOICES, |i| i.saturating_sub(4)..i);
+    table[..front.len()].copy_from_slice(&front);
+    for record in table.iter_mut().filter(|record| kind_of(record) == Kind::Multiplexer) {
+        if random.percent(70) {
+            record[4..6].copy_from_slice(&(random.below(controls.len()) as u16).to_le_bytes());
+        }
+    }
+    table
+}
+
 /// A ring of registers, some with an enable that keeps none of them back and marks none too early: constant
 /// 1, or their data.
 pub fn register_ring(random: &mut Random, n: usize) -> Table {
@@ -163,7 +201,7 @@ fn rewire(random: &mut Random, table: &mut Table) {
 }
 
 /// The table as it is, with every use turned round, or in a random order.
-fn in_some_order(random: &mut Random, table: &[RecordBytes]) -> Table {
+pub(super) fn in_some_order(random: &mut Random, table: &[RecordBytes]) -> Table {
     let n = table.len();
     match random.below(3) {
         0 => table.to_vec(),

@@ -51,7 +51,7 @@ impl Given {
         let written = answer.map_or(0, |written| written as usize);
         check_output(answer, written * 16, &before, &after);
         check_output(answer, written, &numbers_before, &numbers_after);
-        let row = check_scratch(table, answer, &scratch_before, &scratch_after);
+        let row = check_scratch(self.records() * 4, answer, &scratch_before, &scratch_after);
         answer.map_err(|refusal| refused(refusal, row))?;
         after.truncate(written * 16);
         numbers_after.truncate(written);

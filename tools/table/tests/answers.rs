@@ -1,12 +1,13 @@
 //! What the examples' files say that the programs print is what the model answers; what is trimmed of an example
-//! is what the model trims, and runs as the whole does; and the accumulator's run is figure 1 of document 000,
-//! row by row.
+//! is what the model trims, and runs as the whole does; the path that a secret takes in one is the model's; and the
+//! accumulator's run is figure 1 of document 000, row by row.
 
 #[path = "../../../model/tests/common/mod.rs"]
 mod common;
 mod examples;
 
-use common::printed::{printed_certificate, printed_values};
+use common::paths::path_longer;
+use common::printed::{printed_certificate, printed_row, printed_values};
 use common::trimmed_runs::pokes_renumbered;
 use common::trims::{certificate_of, Given};
 use common::{bench_longer, certify_longer};
@@ -56,6 +57,19 @@ fn every_trimmed_example() {
         }
     }
     assert!(seen > 0, "no example is trimmed");
+}
+
+#[test]
+fn every_path_in_an_example() {
+    let mut seen = 0;
+    for example in examples() {
+        if let Some(path) = &example.path {
+            let row = path_longer(&example.table, path.variable, 0);
+            assert_eq!(printed_row(&row), path.printed, "{}", example.name);
+            seen += 1;
+        }
+    }
+    assert!(seen > 0, "no example shows a path");
 }
 
 #[test]

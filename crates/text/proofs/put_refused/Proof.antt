@@ -11,8 +11,8 @@ use Rattle.text.proofs.put_refused.Tie as tie
 ground-number-requires : tie.Need-ground-number-requires
 ground-number-requires c κs = search needs
 
-put-loop-requires : tie.Need-put-loop-requires
-put-loop-requires c κs =
+put-row-requires : tie.Need-put-row-requires
+put-row-requires c κs =
     let p = c .before .before .before .before .before .pre .1
     (omega (arith, c .before .before .ground-number .ensures)) in
     (p .0, p .1, omega (arith, p .2), omega arith)
@@ -21,7 +21,7 @@ put-refusal-requires : tie.Need-put-refusal-requires
 put-refusal-requires c κs =
     let p = c .before .before .before .before .before .before .before .before .before .pre .1
     (omega (arith, c .before .before .before .before .before .before .ground-number .ensures)) in
-    let row = c .before .before .before .put-loop .ensures in
+    let row = c .before .before .before .put-row .ensures in
     (omega (arith, p .2, row .1), omega (arith, row .0 .start, row .0 .long))
 
 same-length : tie.Need-same-length
@@ -36,7 +36,7 @@ returns c =
       c .before .before .before .before .before .before .before .before .before .ground-number
           .ensures,
     ))))
-    (put-then (c .before .before .before .before .before .before .put-loop .ensures .0)
+    (put-then (c .before .before .before .before .before .before .put-row .ensures .0)
     (c .before .before .put-refusal .ensures))
 
 put-refusal-requires-2 : tie.Need-put-refusal-requires-2
@@ -58,7 +58,7 @@ put-refused-spec =
     tie.close
     (tie.spec
     ground-number-requires
-    put-loop-requires
+    put-row-requires
     put-refusal-requires
     same-length
     returns

@@ -9,11 +9,6 @@ use crate::common::{assert_shows_loop, noise, Random};
 use model::Refusal;
 use std::fmt::{Debug, Display, Formatter};
 
-/// How many 16-bit numbers of scratch ground 4 asks for.
-fn scratch_asked(table: &[u8]) -> usize {
-    table.len() / 16 * 4
-}
-
 /// How long the lent buffers are, and how much memory lies on either side of each.
 #[derive(Debug, Clone, Copy)]
 pub struct Lengths {
@@ -25,10 +20,11 @@ pub struct Lengths {
 }
 
 impl Lengths {
-    /// What is asked for a table when the output takes so much a record, and no numbers are written beside.
+    /// What is asked for a table when the output takes so much a record, the scratch four 16-bit numbers, and no
+    /// numbers are written beside.
     pub fn asked(table: &[u8], output_a_record: usize) -> Lengths {
-        let output = table.len() / 16 * output_a_record;
-        Lengths { output, numbers: 0, scratch: scratch_asked(table), margin: 3 }
+        let n = table.len() / 16;
+        Lengths { output: n * output_a_record, numbers: 0, scratch: n * 4, margin: 3 }
     }
 
     /// Lengths that meet those of grounds 3 and 4 that are to be met, by one.
@@ -122,22 +118,23 @@ impl<V: Clone + PartialEq + Debug> Buffers<V> {
         (call(lent), exit)
     }
 
-    /// Puts another row in the place of the one that the scratch's part for this table shows.
-    fn show(&mut self, table: &[u8], row: &[u16]) {
-        let part = &mut self.scratch.lent()[..scratch_asked(table)];
-        part.fill(0);
-        part[..row.len()].copy_from_slice(row);
+    /// Puts another row in the place of the one that the scratch shows, so many variables and then 0.
+    fn show(&mut self, shown: usize, row: &[u16]) {
+        let scratch = self.scratch.lent();
+        scratch[..shown].fill(0);
+        scratch[..row.len()].copy_from_slice(row);
     }
 }
 
 /// What a call reads: the certifying call a table, the bench call stimuli too, the trimming call a certificate
-/// and kept variables, and the call for a bill sizes.
+/// and kept variables, the tracing call a variable, and the call for a bill sizes.
 #[derive(Clone, Copy, Default)]
 pub struct Inputs<'a> {
     pub table: &'a [u8],
     pub stimuli: &'a [u8],
     pub certificate: &'a [u8],
     pub kept: &'a [u16],
+    pub variable: Option<u32>,
     pub sizes: &'a [u32],
 }
 
@@ -147,6 +144,7 @@ impl Display for Inputs<'_> {
         write_lines(f, "bytes of stimuli", self.stimuli, 8)?;
         write_lines(f, "bytes of certificate", self.certificate, 8)?;
         write_lines(f, "kept variables", self.kept, 16)?;
+        write_lines(f, "variable to trace", self.variable.as_slice(), 1)?;
         write_lines(f, "sizes", self.sizes, 16)
     }
 }
@@ -173,10 +171,10 @@ where
     let (answer, mut exit) = entry.after(archive);
     let (expected, mut expected_exit) = entry.after(model);
     match (&answer, &expected) {
-        (Err(Refusal { ground: 11, place }), Err(Refusal { ground: 11, .. })) => {
+        (Err(Refusal { ground: 11, place }), Err(Refusal { ground: 11, place: shown })) => {
             let row = &exit.scratch.lent()[..*place];
             assert_shows_loop(inputs.table, row);
-            expected_exit.show(inputs.table, row);
+            expected_exit.show(*shown, row);
         }
         _ => assert_eq!(answer, expected, "the answer on {inputs}"),
     }

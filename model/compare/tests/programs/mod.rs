@@ -12,7 +12,7 @@ use std::path::{Path, PathBuf};
 use std::process::{Command, Stdio};
 use std::thread;
 
-/// Lengths of a table of zeros around the longest, and what certify, bench and trim_table print for it.
+/// Lengths of a table of zeros around the longest, and what certify, bench, trim_table and trace_path print for it.
 pub const TABLES_AROUND_THE_LONGEST: [(usize, &str); 5] = [
     (65_535, "refused 2 at 0\n"),
     (65_536, "refused 6 at 0\n"),
@@ -59,6 +59,13 @@ impl Folder {
         let path = self.0.join(name);
         fs::write(&path, bytes).expect("the file can be written");
         path
+    }
+
+    /// The path of the file with this name, with so many slashes that it has 4,095 bytes, the most that can be
+    /// read.
+    pub fn longest_path(&self, name: &str) -> PathBuf {
+        let folder = self.0.display().to_string();
+        format!("{folder}{}{name}", "/".repeat(4095 - folder.len() - name.len())).into()
     }
 
     /// Paths of nothing that can be read: one that is missing, a folder, one below a file, and the empty one.
@@ -131,6 +138,17 @@ pub fn assert_complains(name: &str, arguments: &[PathBuf]) -> String {
         errors.strip_suffix('\n').unwrap_or_else(|| panic!("no line in {errors:?} on {arguments:?}"));
     assert!(!line.trim().is_empty() && !line.contains('\n'), "{errors:?} is not one line on {arguments:?}");
     line.to_string()
+}
+
+/// Asserts that on these arguments the program of this command complains of this path.
+pub fn assert_names(name: &str, command: &str, arguments: &[PathBuf], path: &Path) {
+    let line = assert_complains(name, arguments);
+    assert!(line.starts_with(&format!("{command}: {}: ", path.display())), "{line:?} on {arguments:?}");
+}
+
+/// The path with so many more bytes behind it.
+pub fn lengthened(path: &Path, more: usize) -> PathBuf {
+    PathBuf::from(format!("{}{}", path.display(), "x".repeat(more)))
 }
 
 /// Asserts that this output is what is printed for the model's answer on a table, with any loop of the table

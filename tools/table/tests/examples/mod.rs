@@ -3,7 +3,7 @@
 #![allow(dead_code)] // each test file uses a part
 
 use std::fs;
-use std::path::{Path, PathBuf};
+use std::path::PathBuf;
 
 /// The files of an example.
 pub struct Example {
@@ -16,6 +16,8 @@ pub struct Example {
     pub values: String,
     /// Of an example that is trimmed.
     pub trimmed: Option<Trimmed>,
+    /// Of an example in which a secret's path is shown.
+    pub path: Option<Path>,
 }
 
 /// The further files of an example that is trimmed: the certificate's bytes, the kept variables, the trimmed
@@ -28,9 +30,16 @@ pub struct Trimmed {
     pub numbers: Vec<u16>,
 }
 
+/// The further files of an example in which a path is shown: the variable that it begins with, and what is
+/// printed of it.
+pub struct Path {
+    pub variable: u32,
+    pub printed: String,
+}
+
 /// The folder of the examples.
 pub fn folder() -> PathBuf {
-    Path::new(env!("CARGO_MANIFEST_DIR")).join("../../examples")
+    PathBuf::from(env!("CARGO_MANIFEST_DIR")).join("../../examples")
 }
 
 /// The example of this name.
@@ -52,6 +61,10 @@ pub fn example(name: &str) -> Example {
             table: bytes("trimmed"),
             table_text: text("trimmed.txt"),
             numbers: numbers(&text("numbers.txt")),
+        }),
+        path: file("variable.txt").exists().then(|| Path {
+            variable: text("variable.txt").trim_end().parse().unwrap(),
+            printed: text("path.txt"),
         }),
     }
 }

@@ -15,16 +15,16 @@ use Rattle.text.proofs.lines.put_spaced.Statement.{statement}
 use Rattle.text.proofs.lines.put_spaced.Tie as tie
 
 abbrev Inv-loop : tie.InvT-loop
-Inv-loop out₀ at scratch size i₀ p₀ out i p =
-    (1 ≤ i) × (i ≤ size) × Put (pieces (spaced scratch) (size - i) i) out₀ at out p × (at ≤ p + (size - i) * 6)
+Inv-loop out₀ at row size i₀ p₀ out i p =
+    (1 ≤ i) × (i ≤ size) × Put (pieces (spaced row) (size - i) i) out₀ at out p × (at ≤ p + (size - i) * 6)
 
 abbrev μ-loop : tie.MeasureT-loop
-μ-loop out₀ at scratch size i₀ p₀ out i p = i
+μ-loop out₀ at row size i₀ p₀ out i p = i
 
 loop-holds : tie.Need-loop-holds Inv-loop μ-loop
 loop-holds c =
     let x = c .before .before .args in
-    (omega arith, omega arith, no-pieces (spaced (x .scratch .now)) (x .size) (x .out .now) (x .at), omega arith)
+    (omega arith, omega arith, no-pieces (spaced (x .row .now)) (x .size) (x .out .now) (x .at), omega arith)
 
 sub-i : tie.Need-sub-i Inv-loop μ-loop
 sub-i c = omega arith
@@ -58,7 +58,7 @@ loop-again c =
     let is = c .before .before .before .before .before .before .before .wide .ensures in (
       omega arith,
       omega arith,
-      one-more (spaced (x .scratch .now)) (x .size) (l .i) (omega arith) (l .inv .1) (l .inv .2)
+      one-more (spaced (x .row .now)) (x .size) (l .i) (omega arith) (l .inv .1) (l .inv .2)
           (put-as (ap (λ (k : ℕ). space ++ decimal k) (is .0)) (put-then number between)),
       omega (
         arith,
@@ -76,7 +76,7 @@ returns : tie.Need-returns Inv-loop μ-loop
 returns c =
     let x = c .before .before .before .before .args in
     let l = c .before .loop in (
-      all-pieces (spaced (x .scratch .now)) (x .size) (l .i) 1 (x .size - 1) (omega arith) (omega arith) (l .inv .2),
+      all-pieces (spaced (x .row .now)) (x .size) (l .i) 1 (x .size - 1) (omega arith) (omega arith) (l .inv .2),
       omega arith,
     )
 

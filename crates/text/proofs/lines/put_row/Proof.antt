@@ -8,8 +8,8 @@ use Rattle.text.specs.Text.{decimal, newline, pieces, spaced}
 use Rattle.text.proofs.Decimal.{decimal-short}
 use Rattle.text.proofs.Pieces.{put-then, put-as}
 use borrow.Author.Needs.{needs}
-use Rattle.text.proofs.lines.put_loop.Statement.{statement}
-use Rattle.text.proofs.lines.put_loop.Tie as tie
+use Rattle.text.proofs.lines.put_row.Statement.{statement}
+use Rattle.text.proofs.lines.put_row.Tie as tie
 
 put-byte-requires : tie.Need-put-byte-requires
 put-byte-requires c κs = search needs
@@ -38,15 +38,15 @@ returns c =
     let number = c .before .before .put-number .ensures in
     let rest = c .before .before .before .before .before .before .before .before .put-spaced .ensures in (
       put-as
-          (ap (λ (k : ℕ). decimal k ++ (pieces (spaced (x .scratch .now)) (x .size - 1) 1 ++ newline))
+          (ap (λ (k : ℕ). decimal k ++ (pieces (spaced (x .row .now)) (x .size - 1) 1 ++ newline))
           (c .before .before .before .wide .ensures .0))
           (put-then (put-then (c .before .before .before .before .before .before .before .before .before .before
           .before .before .put-byte .ensures) (rest .0)) number),
       omega (arith, decimal-short 4 (c .before .before .before .wide .result) (omega arith), number .start, rest .1),
     )
 
-pub put-loop-spec : {M : Type 1} → statement M
-put-loop-spec =
+pub put-row-spec : {M : Type 1} → statement M
+put-row-spec =
     tie.close
     (tie.spec
     put-byte-requires

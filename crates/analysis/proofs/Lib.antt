@@ -1,0 +1,4 @@
+pub mod Cells
+pub mod Behind
+pub mod Staging
+pub mod Rounds

@@ -1,0 +1,12 @@
+pub mod Rows
+pub mod Marked
+pub mod Lowest
+pub mod Chain
+pub mod Queues
+pub mod Secrets
+pub mod Sorted
+pub mod Used
+pub mod Visits
+pub mod Seeking
+pub mod Writing
+pub mod Promise
