@@ -68,7 +68,7 @@ uint64_t lambdac_trim(const uint8_t *table, size_t table_len, const uint8_t *cer
  * least as many variables; of equals it is the one with the lowest number where they first differ. Every marked
  * variable has one. Asks for one 16-bit number of row and eight of scratch a record. Returns the row's length, at least
  * 1, where the table and the variable are accepted, and the first numbers of row are then the row; what lies past them
- * is unchanged. Else ground * 2^32 + place: after grounds 1 to 11 23 for a variable that is not marked or not in the
+ * is unchanged. Else ground * 2^32 + place: after grounds 1 to 11, 23 for a variable that is not marked or not in the
  * table, its place the number given. A refusal changes no number of row. For ground 11 the place is the length of the
  * loop that stands at the front of the scratch. */
 uint64_t lambdac_path(const uint8_t *table, size_t table_len, uint32_t variable, uint16_t *row, size_t row_len,

@@ -133,7 +133,7 @@ pub fn trim_each<const N: usize>(
     })
 }
 
-/// The answer of all tracing calls, once they are found equal. So much is missing of the row.
+/// The answer of all path calls, once they are found equal. So much is missing of the row.
 pub fn traced(table: &[u8], variable: u32, longer: usize, missing: usize) -> path::Answer {
     let made = path_each(PATH, table, variable, longer, missing);
     assert_alike(&made);

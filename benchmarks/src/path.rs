@@ -1,6 +1,6 @@
-//! The tracing call in plain safe Rust on the same lent buffers: the facts are found in the scratch, behind the order;
-//! then the variables are searched breadth-first along uses up to the first secret input, those that lead to one as
-//! near are flagged back over the queue, and the row takes the lowest of them at each step. Linear but for the rounds.
+//! The path call in plain safe Rust on the same lent buffers: the facts are found in the scratch, behind the order;
+//! then the variables are searched breadth-first along uses, the lowest first, up to the first secret input, and the row
+//! leads back to where the search began. Linear but for the rounds.
 
 use crate::certify::find_facts;
 use crate::schedule::schedule;
@@ -49,12 +49,12 @@ struct Order<'a> {
     registers: usize,
 }
 
-/// A number for each variable: the queue of those that are found, how far each is from the first, counted from 1,
-/// and whether it leads to a secret input that is as near as any.
+/// A number for each variable: the queue of those that are found, for each the place of the one that it was found
+/// from, and for each variable one more than its own place.
 struct Search<'a> {
     queue: &'a mut [u16],
-    distance: &'a mut [u16],
-    leads: &'a mut [u16],
+    parent: &'a mut [u16],
+    found: &'a mut [u16],
 }
 
 /// The scratch's part in its parts.
@@ -72,8 +72,8 @@ impl<'a> Room<'a> {
         let (scratch, rest) = part.split_at_mut(n * 2);
         let (facts, rest) = rest.split_at_mut(n * 3);
         let (queue, rest) = rest.split_at_mut(n);
-        let (distance, leads) = rest.split_at_mut(n);
-        let search = Search { queue, distance, leads };
+        let (parent, found) = rest.split_at_mut(n);
+        let search = Search { queue, parent, found };
         Ok(Room { order: Order { scratch, wires, registers }, facts, search })
     }
 }
@@ -92,9 +92,8 @@ fn trace(
     if first >= n || cells.load(first) != Fact::Marked {
         return Err(Refusal { ground: 23, place: first });
     }
-    let found = find_secret(t, &cells, &mut search, first);
-    flag_back(t, &cells, &mut search, found);
-    Ok(write_row(t, &cells, &search, first, row))
+    let end = find_secret(t, &cells, &mut search, first);
+    Ok(write_row(&search, end, row))
 }
 
 /// Whether a marked variable is a secret input: no other input is marked.
@@ -117,80 +116,51 @@ fn passed_over(t: &impl Table, cells: &impl Cells, v: usize) -> usize {
     }
 }
 
-/// Hands over each marked variable that v uses.
+/// What v uses, ascending; where it uses fewer than three, the first one again.
 #[inline(always)]
-fn each_step(t: &impl Table, cells: &impl Cells, v: usize, mut step: impl FnMut(usize)) {
-    let passed_over = passed_over(t, cells, v);
-    for k in (0..t.kind(v).uses()).filter(|&k| k != passed_over) {
-        let u = t.use_at(v, k);
-        if cells.load(u) == Fact::Marked {
-            step(u);
-        }
+fn sorted_uses(t: &impl Table, cells: &impl Cells, v: usize) -> [usize; 3] {
+    let (passed_over, count) = (passed_over(t, cells, v), t.kind(v).uses());
+    let mut uses = [t.use_at(v, 0); 3];
+    for k in (1..count).filter(|&k| k != passed_over) {
+        uses[k] = t.use_at(v, k);
     }
+    uses.sort_unstable();
+    uses
 }
 
-/// How many variables are in the queue once the first secret input is reached, and how far that is. Whatever is as
-/// near is in the queue too.
-struct Found {
-    queued: usize,
-    distance: u16,
-}
-
-fn find_secret(t: &impl Table, cells: &impl Cells, search: &mut Search, first: usize) -> Found {
-    let Search { queue, distance, .. } = search;
-    (queue[0], distance[first]) = (first as u16, 1);
+/// The place in the queue of the first secret input. A variable is found from the one that comes first in the queue,
+/// and the lowest uses first, so that the queue ascends by length, and then by number.
+fn find_secret(t: &impl Table, cells: &impl Cells, search: &mut Search, first: usize) -> usize {
+    let Search { queue, parent, found } = search;
+    (queue[0], found[first]) = (first as u16, 1);
     let (mut done, mut queued) = (0, 1);
     loop {
         let v = usize::from(queue[done]);
         if is_secret(t, v) {
-            return Found { queued, distance: distance[v] };
+            return done;
         }
-        each_step(t, cells, v, |u| {
-            if distance[u] == 0 {
-                distance[u] = distance[v] + 1;
-                queue[queued] = u as u16;
+        for u in sorted_uses(t, cells, v) {
+            if found[u] == 0 && cells.load(u) == Fact::Marked {
+                (queue[queued], parent[queued]) = (u as u16, done as u16);
                 queued += 1;
+                found[u] = queued as u16;
             }
-        });
+        }
         done += 1;
     }
 }
 
-/// Flags, from the queue's end to its front, the secret inputs that are as near as the one that was found, and what
-/// leads to one in as few steps.
-fn flag_back(t: &impl Table, cells: &impl Cells, search: &mut Search, found: Found) {
-    let Search { queue, distance, leads } = search;
-    for &v in queue[..found.queued].iter().rev() {
-        let v = usize::from(v);
-        if distance[v] == found.distance {
-            leads[v] = is_secret(t, v).into();
-        } else if distance[v] < found.distance {
-            let mut flag = 0;
-            each_step(t, cells, v, |u| {
-                if distance[u] == distance[v] + 1 {
-                    flag |= leads[u];
-                }
-            });
-            leads[v] = flag;
-        }
+/// Writes the row, which leads back from a place along the parents. Its length.
+fn write_row(search: &Search, end: usize, row: &mut [u16]) -> u32 {
+    let (mut steps, mut i) = (0, end);
+    while i > 0 {
+        i = search.parent[i].into();
+        steps += 1;
     }
-}
-
-/// Writes the row, which takes the lowest flagged variable that is one farther at each step. Its length.
-fn write_row(t: &impl Table, cells: &impl Cells, search: &Search, first: usize, row: &mut [u16]) -> u32 {
-    let (mut v, mut length) = (first, 0);
-    loop {
-        row[length] = v as u16;
-        length += 1;
-        if is_secret(t, v) {
-            return length as u32;
-        }
-        let mut lowest = usize::MAX;
-        each_step(t, cells, v, |u| {
-            if search.leads[u] != 0 && search.distance[u] == search.distance[v] + 1 {
-                lowest = lowest.min(u);
-            }
-        });
-        v = lowest;
+    let mut i = end;
+    for place in row[..=steps].iter_mut().rev() {
+        *place = search.queue[i];
+        i = search.parent[i].into();
     }
+    steps as u32 + 1
 }

@@ -4,7 +4,7 @@
 use crate::table::accept;
 use crate::{rounds, Asked, Fact, InputKind, Record, Refusal};
 
-/// What the tracing call asks: a number a variable, and the scratch.
+/// What the path call asks: a number a variable, and the scratch.
 pub const PATH_ASKS: Asked = Asked { output: 1, scratch: 8 };
 
 impl Record {
@@ -71,7 +71,7 @@ fn shortest_row(records: &[Record], facts: &[Fact], variable: usize) -> Vec<usiz
     std::iter::successors(Some(variable), next).collect()
 }
 
-/// The tracing call: the length of the row, which is written to the front of the lent one, or the refusal.
+/// The path call: the length of the row, which is written to the front of the lent one, or the refusal.
 pub fn path(table: &[u8], variable: u32, row: &mut [u16], scratch: &mut [u16]) -> Result<u32, Refusal> {
     let records = accept(table, PATH_ASKS, row.len(), scratch)?;
     let (_, facts) = rounds(&records);

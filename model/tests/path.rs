@@ -1,4 +1,4 @@
-//! The tracing call: rows found by hand, and the clauses of request S-8 on random tables. On small ones every row
+//! The path call: rows found by hand, and the clauses of request S-8 on random tables. On small ones every row
 //! is written out and the least is taken; on all sizes a row is held to each clause by itself, with what has rows
 //! of which length found from the secret inputs on. What the call leaves in its buffers is checked at every call
 //! by the shared helper.

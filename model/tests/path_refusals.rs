@@ -1,4 +1,4 @@
-//! The grounds of the tracing call: each with its place, alone, beside the next and before all later ones, and its
+//! The grounds of the path call: each with its place, alone, beside the next and before all later ones, and its
 //! limits; and on random calls the first that holds when each is read alone.
 
 mod common;

@@ -73,13 +73,13 @@ module _ (n head tail u : ℕ) (s : List ℕ) (lent : n * room ≤ length s) (u-
       ∙ getD-set-other one (n * 4 + tail) i head 0 b
       ∙ getD-set-other s (n * 3 + tail) i u 0 a
 
-  pub one-kept : KeptOutside (n * 3) (n * 6) s three
+  one-kept : KeptOutside (n * 3) (n * 6) s three
   one-kept =
       outside-set (n * 5 + u) (tail + 1) (omega arith) (omega arith)
       (outside-set (n * 4 + tail) head (omega arith) (omega arith)
       (outside-set (n * 3 + tail) u (omega arith) (omega arith) (outside-none (n * 3) (n * 6) s)))
 
-  pub one-pushed : Pushed (queued n s) (parent n s) (found n s) (queued n three) (parent n three) (found n three) u head
+  one-pushed : Pushed (queued n s) (parent n s) (found n s) (queued n three) (parent n three) (found n three) u head
       tail
   one-pushed =
       record {
@@ -150,7 +150,7 @@ module _ {t : List ℕ} {n : ℕ} {s : List ℕ} {head tail bound : ℕ} (search
           kept = kept;
         }
 
-    pub visited-one : {s′ : List ℕ} {r : ℕ} → VisitedOne n head u s tail s′ r → Visits t n head u s s′ tail r
+    visited-one : {s′ : List ℕ} {r : ℕ} → VisitedOne n head u s tail s′ r → Visits t n head u s s′ tail r
     visited-one (inl (not-unfound, e, k)) = rw (e, k) (visit-none not-unfound)
     visited-one (inr (unfound, e, k)) = rw (e, k) (visit-one unfound)
 

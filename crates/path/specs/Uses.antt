@@ -8,7 +8,7 @@ use lib.Dec.{T}
 use Rattle.net.specs.Tests.{member}
 use Rattle.path.specs.declared.uses.Three.{Three}
 
--- the three are the numbers of the list, some of them twice where it has fewer, and ascend
+-- the three are the numbers of the list, some of them more than once where it has fewer, and ascend
 pub record Sorted (l : List ℕ) (r : Three) : Type 0 where
   pub low : r .first ≤ r .second
   pub high : r .second ≤ r .third

@@ -10,6 +10,7 @@ ghost use Rattle.buffer.specs.Kept.{KeptOutside};
 ghost use Rattle.circuit.specs.declared.refusal.Check.the-variants.{Passed};
 ghost use Rattle.circuit.specs.Powers.{Powers};
 ghost use Rattle.fact.specs.declared.Fact.the-variants.{Marked};
+ghost use Rattle.fact.specs.Fact.{factByte};
 ghost use Rattle.engine.specs.Ready.{Ready};
 ghost use Rattle.call.specs.Call.{lent, left, checked};
 ghost use Rattle.analysis.specs.Cells.{words};
@@ -48,7 +49,7 @@ pub enum Traced {
 // Whether variable v exists and byte 0 of its fact says that it is marked.
 fn is_marked(s: &[u16], n: usize, v: usize) -> bool
     requires { ⌜ (n * room ≤ length (now s)) × (n ≤ 4096) ⌝ }
-    ensures { λ r. ⌜ r ≡ (ltb v n && eqb (getD (now (s .entry)) (v * 3) 0) 3) ⌝ }
+    ensures { λ r. ⌜ r ≡ (ltb v n && eqb (getD (now (s .entry)) (v * 3) 0) (factByte Marked)) ⌝ }
 {
     if n <= v {
         return false;
@@ -70,7 +71,7 @@ fn write_path(t: &[u8], n: usize, s: &mut [u16], v: usize, row: &mut [u16]) -> u
     steps + 1
 }
 
-// The call on a table whose order stands in the scratch, with zeros from its sixth part on.
+// The call on a table whose order stands in the scratch, with zeros where the search keeps what it finds.
 fn path_ordered(
     t: &[u8],
     n: usize,

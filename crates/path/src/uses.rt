@@ -15,13 +15,14 @@ use circuit::table::c_at;
 use circuit::table::kind_at;
 use fact::Fact;
 
-// Three numbers, of which the last may stand twice or thrice.
+// Three numbers in ascending order; where there are fewer, some stand more than once.
 pub struct Three {
     pub first: usize,
     pub second: usize,
     pub third: usize,
 }
 
+// Two numbers, the higher one twice.
 fn pair(a: usize, b: usize) -> Three
     ensures { λ r. ⌜ Sorted (a ∷ b ∷ []) r ⌝ }
 {
@@ -39,6 +40,7 @@ fn pair(a: usize, b: usize) -> Three
     }
 }
 
+// Three numbers.
 fn triple(a: usize, b: usize, c: usize) -> Three
     ensures { λ r. ⌜ Sorted (a ∷ b ∷ c ∷ []) r ⌝ }
 {
@@ -66,7 +68,7 @@ fn triple(a: usize, b: usize, c: usize) -> Three
     }
 }
 
-// What a multiplexer uses: the control and the arm taken, where the control is always a number.
+// What a multiplexer uses: the control and the arm taken, where the control is always a number, else all three.
 fn multiplexer_uses(t: &[u8], n: usize, s: &[u16], v: usize) -> Three
     requires { ⌜ FactsStand (now t) n (now s) ⌝ }
     requires { ⌜ v < n ⌝ }

@@ -120,7 +120,7 @@ pub fn trim(
     unpacked(answer)
 }
 
-/// The archive's tracing call: the row's length, or the refusal.
+/// The archive's path call: the row's length, or the refusal.
 pub fn path(table: &[u8], variable: u32, row: &mut [u16], scratch: &mut [u16]) -> Result<u32, Refusal> {
     // SAFETY: each pointer and length are those of one slice, and borrowed slices do not overlap.
     let answer = unsafe {

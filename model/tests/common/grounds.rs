@@ -1,5 +1,5 @@
 //! A table and a list of stimuli that meet a given set of grounds, on one record of each sort; what is given to
-//! a trimming or a tracing call that does, likewise; and an order that does.
+//! a trimming or a path call that does, likewise; and an order that does.
 
 use super::orders::{LARGEST_SIZE, MOST_SIZES};
 use super::samples::{changed, one_of_each, CONSTANT, ENABLED, FIXED, FREE, OPERATOR};
@@ -201,7 +201,7 @@ fn kept_that_meets(meets: impl Fn(u32) -> bool, place: usize) -> Vec<u16> {
     kept
 }
 
-/// The grounds that a tracing call tries, in their order.
+/// The grounds that a path call tries, in their order.
 pub const PATH_GROUNDS: [u32; 12] = [1, 2, 3, 4, 5, 6, 7, 8, 9, 10, 11, 23];
 
 /// Numbers that ground 23 turns away on one record of each sort: the variables that are open or always a number,
@@ -225,7 +225,7 @@ pub const NOT_MARKED: [u32; 16] = [
     u32::MAX,
 ];
 
-/// Where a tracing call on one record of each sort meets those of its grounds that can be met at several places.
+/// Where a path call on one record of each sort meets those of its grounds that can be met at several places.
 #[derive(Debug, Clone, Copy)]
 pub struct PathFaults {
     /// The register that meets 5 to 10.

@@ -4,7 +4,7 @@
 //! are in `document_cases`, those of registers with an enable in `enable_cases`, those of fixed inputs in
 //! `fixed_cases`, those of known zeros in `zero_cases`, further tables in `samples`, what meets a set of
 //! grounds in `grounds`, and bench runs in `hand_runs`. `orders` has orders and the call for a bill, `trims`
-//! the trimming call and what is given to it, `trim_cases` tables trimmed by hand, `paths` the tracing call and
+//! the trimming call and what is given to it, `trim_cases` tables trimmed by hand, `paths` the path call and
 //! tables to trace in, `path_cases` rows found by hand, and `printed` the lines that the programs print.
 //! `two_runs` tries demand 3 on any two calls, `trimmed_runs` the claim of request S-5 on any three. `times`
 //! counts how often something occurs, and `fixed_pokes` how often lists poke fixed inputs early, late, twice or

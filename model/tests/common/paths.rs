@@ -1,14 +1,14 @@
-//! The tracing call made on buffers whose contents are checked afterwards by request S-8's clauses, and what is
+//! The path call made on buffers whose contents are checked afterwards by request S-8's clauses, and what is
 //! given to it: tables in which rows are long, equally short or barred by an arm passed over, and variables.
 
 use super::shapes::{in_some_order, lattice, random_shape, register_chain, tied};
 use super::{check_output, check_scratch, noise, refused, Random, Refused, Table};
 use model::{find_loop, path, read_records, rounds, Fact};
 
-/// What the tracing call answers: the row, or the refusal.
+/// What the path call answers: the row, or the refusal.
 pub type Traced = Result<Vec<u16>, Refused>;
 
-/// The tracing call on buffers of these lengths. What the request says of them is checked.
+/// The path call on buffers of these lengths. What the request says of them is checked.
 pub fn path_on(table: &[u8], variable: u32, row: usize, scratch: usize) -> Traced {
     let before: Vec<u16> = noise(row).collect();
     let scratch_before: Vec<u16> = noise(scratch).collect();
@@ -22,7 +22,7 @@ pub fn path_on(table: &[u8], variable: u32, row: usize, scratch: usize) -> Trace
     Ok(after)
 }
 
-/// The tracing call on buffers as long as asked and so many longer.
+/// The path call on buffers as long as asked and so many longer.
 pub fn path_longer(table: &[u8], variable: u32, longer: usize) -> Traced {
     let n = table.len() / 16;
     path_on(table, variable, n + longer, n * 8 + longer)

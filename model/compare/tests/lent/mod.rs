@@ -127,7 +127,7 @@ impl<V: Clone + PartialEq + Debug> Buffers<V> {
 }
 
 /// What a call reads: the certifying call a table, the bench call stimuli too, the trimming call a certificate
-/// and kept variables, the tracing call a variable, and the call for a bill sizes.
+/// and kept variables, the path call a variable, and the call for a bill sizes.
 #[derive(Clone, Copy, Default)]
 pub struct Inputs<'a> {
     pub table: &'a [u8],
