@@ -21,7 +21,7 @@ extern "C" {
 #endif
 
 /* Certifies a table of 16-byte records (tools/table/README.md has their bytes, and those of a stimulus). Asks for 8
- * bytes of certificate and four 16-bit numbers of scratch a record.
+ * bytes of certificate and two 16-bit numbers of scratch a record.
  * Byte 0 of a variable's 8 bytes is 1 always, 2 open, 3 marked; bytes 1 to 3 are 0; bytes 4 to 7 are the number of an
  * always, little-endian, else 0. An input that is fixed to 0 is always 0, one that is fixed to another number open. An
  * and with an operand that is always 0 is always 0, whatever the other operand is; so are both shifts of an A that is

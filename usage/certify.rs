@@ -6,7 +6,7 @@ extern "C" {
 }
 
 fn main() {
-    let (mut table, mut certificate, mut scratch) = (Vec::new(), [0; 32768], [0; 16384]);
+    let (mut table, mut certificate, mut scratch) = (Vec::new(), [0; 32768], [0; 8192]);
     std::io::stdin().read_to_end(&mut table).expect("standard input can be read");
     let (t, c, s) = (table.as_ptr(), certificate.as_mut_ptr(), scratch.as_mut_ptr());
     // SAFETY: each pointer comes with the length of its buffer, and no two buffers overlap.

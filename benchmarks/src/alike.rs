@@ -7,7 +7,7 @@ use crate::common::tables::damage;
 use crate::common::trims::{damage_kept, random_given, Given};
 use crate::common::Random;
 use crate::{bench, certify, path, trim, Bench, Certify, Path, Trim, BENCH, CERTIFY, PATH, TRIM};
-use model::Refusal;
+use model::{Refusal, CERTIFY_ASKS};
 use std::fmt::Debug;
 
 /// What a call answers, and what it leaves in its outputs and in its scratch.
@@ -80,7 +80,7 @@ pub fn certify_each<const N: usize>(
     let n = table.len() / 16;
     calls.map(|call| {
         let mut certificate: Vec<u8> = noise(n * 8 + longer).map(|x| x as u8).collect();
-        let mut scratch: Vec<u16> = noise(n * 4 + longer).collect();
+        let mut scratch: Vec<u16> = noise(n * CERTIFY_ASKS.scratch + longer).collect();
         let answer = call(table, &mut certificate, &mut scratch);
         (answer, certificate, scratch)
     })
@@ -157,7 +157,7 @@ pub fn path_each<const N: usize>(
 }
 
 /// Asserts that every call made the first one's answer and outputs, and the first ones its scratch.
-pub fn assert_alike<A: PartialEq + Debug, O: PartialEq + Debug>(made: &[Made<A, O>]) {
+fn assert_alike<A: PartialEq + Debug, O: PartialEq + Debug>(made: &[Made<A, O>]) {
     for (i, other) in made.iter().enumerate().skip(1) {
         assert_eq!(made[0].0, other.0, "the answer of call {i}");
         assert_eq!(made[0].1, other.1, "the output of call {i}");

@@ -23,18 +23,17 @@ mod worklist;
 mod common;
 
 use alike::{
-    assert_alike, bench_each, benched, certified, certify_each, compare_variants, path_each, traced,
-    trim_each, trimmed, Made,
+    bench_each, benched, certified, certify_each, compare_variants, path_each, traced, trim_each, trimmed,
+    Made,
 };
 use before::Archive;
 use common::trims::Given;
 use common::Random;
 use measure::{compared, medians, Call};
-use model::{read_records, Record};
+use model::{read_records, Record, CERTIFY_ASKS};
 use print::{compared_row, empty_row, print_before, print_head, print_row, row_head};
 use shapes::{Shape, Shapes};
 use std::cell::RefCell;
-use std::fmt::Debug;
 use std::hint::black_box;
 
 type Certify = dyn Fn(&[u8], &mut [u8], &mut [u16]) -> certify::Answer;
@@ -48,6 +47,9 @@ const CERTIFY: [&Certify; 5] =
 const BENCH: [&Bench; 4] = [&compare::bench, &bench::by_bytes, &bench::by_chunks, &bench::by_structs];
 const TRIM: [&Trim; 4] = [&compare::trim, &trim::by_bytes, &trim::by_chunks, &trim::by_structs];
 const PATH: [&Path; 4] = [&compare::path, &path::by_bytes, &path::by_chunks, &path::by_structs];
+
+/// How many numbers of scratch a record certify is lent where it is timed: an earlier archive may ask so many.
+const MOST_SCRATCH: usize = 4;
 
 /// With this seed the shapes are those of docs/PERFORMANCE.md.
 const SEED: u64 = 0x1833_2ffc_e272_4a06;
@@ -93,7 +95,7 @@ fn certify_row(shape: &Shape, archives: Option<&[Archive; 2]>) -> Option<String>
     let rounds = certified(&shape.table, 0).expect("the shapes are accepted") as usize;
     let n = shape.table.len() / 16;
     let table = &shape.table;
-    let lent = &RefCell::new((vec![0; n * 8], vec![0; n * 4]));
+    let lent = &RefCell::new((vec![0; n * 8], vec![0; n * MOST_SCRATCH]));
     let ready = |call: &'static Certify| -> Call {
         Box::new(move || {
             let (certificate, scratch) = &mut *lent.borrow_mut();
@@ -106,7 +108,8 @@ fn certify_row(shape: &Shape, archives: Option<&[Archive; 2]>) -> Option<String>
     print_row(&head, (wires + registers) * (rounds + 1), &times);
     archives.map(|archives| {
         let calls = archives.each_ref().map(|archive| archive.certify);
-        before_row(&head, &certify_each(calls, table, 0), calls.map(ready), true)
+        let longer = n * (MOST_SCRATCH - CERTIFY_ASKS.scratch);
+        before_row(&head, &certify_each(calls, table, longer), calls.map(ready), true)
     })
 }
 
@@ -187,8 +190,8 @@ fn path_row(shape: &Shape, archives: Option<&[Archive; 2]>) -> Option<String> {
 
 /// The two archives' times, with empty cells where the earlier one refuses what this one accepts. Facts go by
 /// the rules: where `by_rules` and the earlier one has another answer or output, its rules are others, and the
-/// row says so.
-fn before_row<A: PartialEq + Debug, O: PartialEq + Debug>(
+/// row says so. What is left in the scratch goes by how much is asked of it, which may differ too.
+fn before_row<A: PartialEq, O: PartialEq>(
     head: &str,
     made: &[Made<A, O>; 2],
     mut calls: [Call; 2],
@@ -198,9 +201,7 @@ fn before_row<A: PartialEq + Debug, O: PartialEq + Debug>(
     if earlier.0.is_err() {
         return empty_row(head);
     }
-    let other_rules = by_rules && (&this.0, &this.1) != (&earlier.0, &earlier.1);
-    if !other_rules {
-        assert_alike(made);
-    }
+    let other_rules = (&this.0, &this.1) != (&earlier.0, &earlier.1);
+    assert!(by_rules || !other_rules, "the archives differ: {head}");
     compared_row(head, &compared(&mut calls), other_rules)
 }

@@ -5,7 +5,7 @@ use crate::table::accept;
 use crate::{rule, settle, together, Asked, Fact, Record, Refusal};
 
 /// What the certifying call asks: 8 bytes a variable, and the scratch.
-pub const CERTIFY_ASKS: Asked = Asked { output: 8, scratch: 4 };
+pub const CERTIFY_ASKS: Asked = Asked { output: 8, scratch: 2 };
 
 impl Record {
     /// The fact before any round: an input has its rule's, a register is always its power-on value. A wire's

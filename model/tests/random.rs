@@ -240,15 +240,15 @@ fn short_buffers_are_refused_before_records_are_read() {
             continue;
         }
         let (n, output, scratch) = (table.len() / 16, random.below(20), random.below(80));
-        let expected = |asked: usize| match (output < asked, scratch < n * 4) {
+        let expected = |a_record: usize, room: usize| match (output < n * a_record, scratch < n * room) {
             (true, _) => Some(3),
             (false, true) => Some(4),
             _ => None,
         };
-        if let Some(ground) = expected(n * 8) {
+        if let Some(ground) = expected(8, 2) {
             assert_eq!(certify_on(&table, output, scratch).unwrap_err().ground, ground);
         }
-        if let Some(ground) = expected(n) {
+        if let Some(ground) = expected(1, 4) {
             assert_eq!(bench_on(&table, &[1], output, scratch).unwrap_err().ground, ground);
         }
     }

@@ -83,7 +83,7 @@ fn ground_3_before_4_and_5() {
     let damaged = with(&[(0, 0, 6)]);
     for table in [with(&[]), damaged] {
         let n = table.len() / 16;
-        for scratch in [0, n * 4 - 1, n * 4, n * 4 + 1] {
+        for scratch in [0, n * 2 - 1, n * 2, n * 4 - 1, n * 4, n * 4 + 1] {
             for certificate in [0, n * 8 - 1] {
                 let refused = certify_on(&table, certificate, scratch).unwrap_err();
                 assert_eq!((refused.ground, refused.place), (3, 0));
@@ -101,10 +101,12 @@ fn ground_4_before_5_and_11() {
     let loop_of_one = operator(Add, 1, 0, 0).to_vec();
     for table in [with(&[]), with(&[(0, 0, 6)]), loop_of_one] {
         let n = table.len() / 16;
-        for scratch in [0, n * 4 - 1] {
-            for longer in [0, 7] {
+        for longer in [0, 7] {
+            for scratch in [0, n * 2 - 1] {
                 let refused = certify_on(&table, n * 8 + longer, scratch).unwrap_err();
                 assert_eq!((refused.ground, refused.place), (4, 0));
+            }
+            for scratch in [0, n * 2, n * 4 - 1] {
                 let refused = bench_on(&table, &[9], n + longer, scratch).unwrap_err();
                 assert_eq!((refused.ground, refused.place), (4, 0));
             }

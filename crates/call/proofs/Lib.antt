@@ -1,3 +1,4 @@
 pub mod Parts
 pub mod Contents
 pub mod Answers
+pub mod Rooms

@@ -72,7 +72,7 @@ module _ (t cells scratch : List ℕ) (ok : checked certifying (lent t cells scr
       }
 
 -- two certificates of what is lent are the same, and so are their counts
-certificate-determined : (l : Lent) (o o′ : List (List ℕ)) (k k′ : ℕ) → Certificate l o k → Certificate l o′ k′
+pub certificate-determined : (l : Lent) (o o′ : List (List ℕ)) (k k′ : ℕ) → Certificate l o k → Certificate l o′ k′
     → (k ≡ k′) × (o ≡ o′)
 certificate-determined l o o′ k k′ p q =
     let c = circuitOf l in

@@ -1,2 +1,3 @@
 pub mod Staging
 pub mod Promise
+pub mod FourAsked

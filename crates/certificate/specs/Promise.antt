@@ -22,7 +22,7 @@ abbrev pub each : ℕ
 each = 8
 
 abbrev pub room : ℕ
-room = 4
+room = 2
 
 module _ (l : Lent) where
   abbrev c : Circuit
@@ -52,8 +52,8 @@ answerOf (Refused g place) = refused g place
 abbrev pub Certifies : Lent → Left → Certified → Type 0
 Certifies l e r = Promises certifying l e (answerOf r)
 
--- what it asks, computed: of a table of one record 8 bytes and four numbers, and one less of either is refused
-pub asks-hold : (foundOf certifying 7 4 ∷ foundOf certifying 8 3 ∷ foundOf certifying 8 4 ∷ [])
+-- what it asks, computed: of a table of one record 8 bytes and two numbers, and one less of either is refused
+pub asks-hold : (foundOf certifying 7 2 ∷ foundOf certifying 8 1 ∷ foundOf certifying 8 2 ∷ [])
     ≡ (3 ∷ 0 ∷ []) ∷ (4 ∷ 0 ∷ []) ∷ [] ∷ []
 unfolding checkRecords
 asks-hold = refl

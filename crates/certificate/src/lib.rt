@@ -30,7 +30,7 @@ pub mod round;
 // What is asked a record of the certificate and of the scratch.
 const EACH: usize = 8;
 
-const ROOM: usize = 4;
+const ROOM: usize = 2;
 
 // The number of rounds of an accepted table; or the ground on which it is turned down, with its place.
 pub enum Certified {

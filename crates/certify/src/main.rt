@@ -33,7 +33,7 @@ fn print(answer: &[u8]) {
 // Prints what the certifying call answers.
 fn print_text(table: &[u8]) {
     let mut certificate = [0u8; 32768];
-    let mut scratch = [0u16; 16384];
+    let mut scratch = [0u16; 8192];
     let mut out = [0u8; 131072];
     let from = certify_text(table, &mut certificate, &mut scratch, &mut out);
     print(&out[from..]);
@@ -42,7 +42,7 @@ fn print_text(table: &[u8]) {
 // Prints the certificate's own bytes; a refusal's line goes to standard error.
 fn print_bytes(table: &[u8]) {
     let mut certificate = [0u8; 32768];
-    let mut scratch = [0u16; 16384];
+    let mut scratch = [0u16; 8192];
     let mut line = [0u8; 64];
     let report = certify_bytes(table, &mut certificate, &mut scratch, &mut line);
     match report {

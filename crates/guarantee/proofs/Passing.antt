@@ -33,30 +33,28 @@ call-accepted call l e (refused g place) ok none later (inr (inl (is, p))) = abs
 call-accepted call l e (refused g place) ok none later (inr (inr p)) =
     passed-refused (call .later l) _ _ later (p .first)
 
--- none of grounds 1 to 10 holds of a call that asks `each` of its one output and four of the scratch, and is lent that
-one-checked : (call : Call) (each : ℕ) (t output scratch : List ℕ) → call .asks ≡ each ∷ [] → call .room ≡ 4
+-- none of grounds 1 to 10 holds of a call that asks `each` of its one output, where as much is lent as is asked
+one-checked : (call : Call) (each : ℕ) (t output scratch : List ℕ) → call .asks ≡ each ∷ []
     → checkLength (length t) ≡ Passed → checkRecords t (length t / 16) ≡ Passed → length t / 16 * each ≤ length output
-    → length t / 16 * 4 ≤ length scratch → checked call (lent t output scratch) ≡ Passed
-one-checked call each t output scratch asks room lengths records long enough =
+    → length t / 16 * call .room ≤ length scratch → checked call (lent t output scratch) ≡ Passed
+one-checked call each t output scratch asks lengths records long enough =
     rw (
       asks,
-      room,
       lengths,
       le-ltb (length output) (length t / 16 * each) long,
-      le-ltb (length scratch) (length t / 16 * 4) enough,
+      le-ltb (length scratch) (length t / 16 * call .room) enough,
     )
     records
 
 module _ (t output scratch : List ℕ) (lengths : checkLength (length t) ≡ Passed)
-    (records : checkRecords t (length t / 16) ≡ Passed) (none : NoLoop (circuit t (length t / 16)))
-    (room : length t / 16 * 4 ≤ length scratch) where
+    (records : checkRecords t (length t / 16) ≡ Passed) (none : NoLoop (circuit t (length t / 16))) where
   -- a bench call on such a table, with a list that passes
   pub bench-accepted : (s : List ℕ) (e : Left) (r : Benched) → length t / 16 ≤ length output
-      → checkStimuli (circuit t (length t / 16)) s ≡ Passed → Benches s (lent t output scratch) e r
-      → r ≡ benched.Accepted
-  bench-accepted s e r long later p =
+      → length t / 16 * 4 ≤ length scratch → checkStimuli (circuit t (length t / 16)) s ≡ Passed
+      → Benches s (lent t output scratch) e r → r ≡ benched.Accepted
+  bench-accepted s e r long room later p =
       let (k, is) = call-accepted (benching s) (lent t output scratch) e (benched-call.answerOf r)
-      (one-checked (benching s) 1 t output scratch refl refl lengths records (omega arith) room) none later p in
+      (one-checked (benching s) 1 t output scratch refl lengths records (omega arith) room) none later p in
       accepted-told r is
     where
       accepted-told : (r : Benched) {k : ℕ} → benched-call.answerOf r ≡ accepted k → r ≡ benched.Accepted
@@ -65,8 +63,9 @@ module _ (t output scratch : List ℕ) (lengths : checkLength (length t) ≡ Pas
 
   -- a certifying call on such a table
   pub certify-accepted : (e : Left) (r : Certified) → length t / 16 * 8 ≤ length output
-      → Certifies (lent t output scratch) e r → (k : ℕ) × (r ≡ certified.Accepted k)
-  certify-accepted e r long p =
+      → length t / 16 * 2 ≤ length scratch → Certifies (lent t output scratch) e r
+      → (k : ℕ) × (r ≡ certified.Accepted k)
+  certify-accepted e r long room p =
       let (k, is) = call-accepted certifying (lent t output scratch) e (certified-call.answerOf r)
-      (one-checked certifying 8 t output scratch refl refl lengths records long room) none refl p in
+      (one-checked certifying 8 t output scratch refl lengths records long room) none refl p in
       (k, answer-told r (certified.Accepted k) is)

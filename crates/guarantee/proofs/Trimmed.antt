@@ -99,7 +99,7 @@ module _ {t cells scratch cells′ scratch′ : List ℕ} {rounds : ℕ}
     accepted : r ≡ benched.Accepted
     accepted =
         bench-accepted t′ values₁ scratch₃ (trimmed-length-passes q) (trimmed-records-pass q) (trimmed-without-loop q)
-        (rw records room) s′ (left values₁′ scratch₃′) r (rw records output) later b′
+        s′ (left values₁′ scratch₃′) r (rw records output) (rw records room) later b′
 
     same : (j : ℕ) → j < k → getD values₁′ j 0 ≡ getD values′ (getD numbers j 0) 0
     same j below =

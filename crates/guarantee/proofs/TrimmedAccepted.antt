@@ -26,11 +26,11 @@ module _ {t certificate kept first second scratch₁ first′ numbers scratch₁
     (trim-call.left first′ numbers scratch₁′) (trim.Accepted k)) where
   -- a certifying call on the trimmed table is accepted
   pub trimmed-certified : (cells scratch : List ℕ) (e : Left) (r : Certified) → k * 8 ≤ length cells
-      → k * 4 ≤ length scratch → Certifies (lent (take (k * 16) first′) cells scratch) e r
+      → k * 2 ≤ length scratch → Certifies (lent (take (k * 16) first′) cells scratch) e r
       → (rounds : ℕ) × (r ≡ certified.Accepted rounds)
   trimmed-certified cells scratch e r long room p =
       certify-accepted (take (k * 16) first′) cells scratch (trimmed-length-passes q) (trimmed-records-pass q)
-      (trimmed-without-loop q) (rw (trimmed-records q) room) e r (rw (trimmed-records q) long) p
+      (trimmed-without-loop q) e r (rw (trimmed-records q) long) (rw (trimmed-records q) room) p
 
   -- and so is a bench call with a list that passes
   pub trimmed-benched : (s values scratch : List ℕ) (e : Left) (r : Benched) → k ≤ length values
@@ -38,5 +38,5 @@ module _ {t certificate kept first second scratch₁ first′ numbers scratch₁
       → Benches s (lent (take (k * 16) first′) values scratch) e r → r ≡ benched.Accepted
   trimmed-benched s values scratch e r long room later p =
       bench-accepted (take (k * 16) first′) values scratch (trimmed-length-passes q) (trimmed-records-pass q)
-      (trimmed-without-loop q) (rw (trimmed-records q) room) s e r (rw (trimmed-records q) long)
+      (trimmed-without-loop q) s e r (rw (trimmed-records q) long) (rw (trimmed-records q) room)
       (rw (trimmed-records q) later) p

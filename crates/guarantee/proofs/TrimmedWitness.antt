@@ -46,9 +46,9 @@ no-loop : NoLoop (circuit table 6)
 unfolding circuit checkRecords allBelow every
 no-loop = falling-no-loop table 6 (1 ∷ 0 ∷ 0 ∷ 0 ∷ 1 ∷ 0 ∷ []) refl tt
 
-certified-once : Certifies (zeros table 48 24) (written certificate 24) (certified.Accepted 1)
+certified-once : Certifies (zeros table 48 12) (written certificate 12) (certified.Accepted 1)
 unfolding flatMap circuit checkRecords listBelow rule initialStore after rounds definition.certificate
-certified-once = certified-computed (zeros table 48 24) certificate 1 refl no-loop refl refl refl
+certified-once = certified-computed (zeros table 48 12) certificate 1 refl no-loop refl refl refl
 
 trimmed-once : CallTrims (take 48 certificate) kept trimLent trimLeft (trim.Accepted 4)
 unfolding flatMap circuit checkRecords checkKept checkCertificate replaced survivors trim-definition.trimmed
@@ -91,9 +91,9 @@ benched-other =
       accepts = record { no-number = refl; values = refl };
     }
 
-certified-trimmed : Certifies (zeros (take 64 trimmed) 32 16) (written certificate′ 16) (certified.Accepted 1)
+certified-trimmed : Certifies (zeros (take 64 trimmed) 32 8) (written certificate′ 8) (certified.Accepted 1)
 unfolding flatMap circuit checkRecords listBelow rule initialStore after rounds definition.certificate
-certified-trimmed = certified-computed (zeros (take 64 trimmed) 32 16) certificate′ 1 refl no-loop′ refl refl refl
+certified-trimmed = certified-computed (zeros (take 64 trimmed) 32 8) certificate′ 1 refl no-loop′ refl refl refl
 
 -- ---- the lists
 
@@ -124,12 +124,12 @@ stimuli-alike = record { equally-long = refl; alike = alike-places }
 -- ---- what is claimed of them
 
 -- the premises hold, two variables are dropped, and the variable that is poked has another number
-pub premises-met : Certifies (zeros table 48 24) (written certificate 24) (certified.Accepted 1)
+pub premises-met : Certifies (zeros table 48 12) (written certificate 12) (certified.Accepted 1)
     × CallTrims (take 48 certificate) kept trimLent trimLeft (trim.Accepted 4)
     × Benches stimuli (zeros table 6 24) (written values 24) benched.Accepted
     × Benches stimuli′ (zeros (take 64 trimmed) 4 16) (written values′ 16) benched.Accepted
     × Benches stimuli″ (zeros (take 64 trimmed) 4 16) (written values″ 16) benched.Accepted
-    × Certifies (zeros (take 64 trimmed) 32 16) (written certificate′ 16) (certified.Accepted 1)
+    × Certifies (zeros (take 64 trimmed) 32 8) (written certificate′ 8) (certified.Accepted 1)
     × RenumberedStimuli numbers 4 stimuli stimuli′
     × AlikeStimuli (take 64 trimmed) stimuli′ stimuli″
     × (4 + 2 ≡ length table / 16)

@@ -31,18 +31,18 @@ use Rattle.guarantee.proofs.TwoRuns.{two-runs-guaranteed}
 -- ---- the table
 
 abbrev c : Circuit
-c = circuitOf (zeros 8)
+c = circuitOf (zeros 8 2)
 
 -- no row is a loop: the wires are case A's
 no-loop : NoLoop c
 unfolding flatten circuit checkRecords allBelow every
 no-loop = falling-no-loop table 9 ranksA refl tt
 
-certified-once : Certifies (zeros 8) (written witness.certificate) (certified.Accepted 1)
+certified-once : Certifies (zeros 8 2) (written witness.certificate 2) (certified.Accepted 1)
 unfolding flatten flatMap circuit checkRecords listBelow rule initialStore after rounds certificate
-certified-once = certified-computed (zeros 8) witness.certificate 1 refl no-loop refl refl refl
+certified-once = certified-computed (zeros 8 2) witness.certificate 1 refl no-loop refl refl refl
 
-benched₁ : Benches stimuli₁ (zeros 1) (written values₁) benched.Accepted
+benched₁ : Benches stimuli₁ (zeros 1 4) (written values₁ 4) benched.Accepted
 unfolding flatten circuit checkRecords checkStimuli stimuli listBelow machine
 benched₁ =
     record {
@@ -51,7 +51,7 @@ benched₁ =
       accepts = record { no-number = refl; values = refl };
     }
 
-benched₂ : Benches stimuli₂ (zeros 1) (written values₂) benched.Accepted
+benched₂ : Benches stimuli₂ (zeros 1 4) (written values₂ 4) benched.Accepted
 unfolding flatten circuit checkRecords checkStimuli stimuli listBelow machine
 benched₂ =
     record {
@@ -76,9 +76,9 @@ stimuli-alike : AlikeStimuli table stimuli₁ stimuli₂
 stimuli-alike = record { equally-long = refl; alike = alike-places }
 
 -- the premises of demand 3 hold, and the secret input ends with two numbers
-pub premises-met : Certifies (zeros 8) (written witness.certificate) (certified.Accepted 1)
-    × Benches stimuli₁ (zeros 1) (written values₁) benched.Accepted
-    × Benches stimuli₂ (zeros 1) (written values₂) benched.Accepted
+pub premises-met : Certifies (zeros 8 2) (written witness.certificate 2) (certified.Accepted 1)
+    × Benches stimuli₁ (zeros 1 4) (written values₁ 4) benched.Accepted
+    × Benches stimuli₂ (zeros 1 4) (written values₂ 4) benched.Accepted
     × AlikeStimuli table stimuli₁ stimuli₂
     × (getD values₁ 0 0 ≡ getD values₂ 0 0 → ⊥)
 premises-met = (certified-once, benched₁, benched₂, stimuli-alike, λ e. omega arith)

@@ -50,10 +50,10 @@ values₁ = 5 ∷ 1 ∷ 5 ∷ 10 ∷ 15 ∷ 15 ∷ 1 ∷ 9 ∷ 0 ∷ []
 abbrev pub values₂ : List ℕ
 values₂ = 200 ∷ 1 ∷ 5 ∷ 10 ∷ 15 ∷ 15 ∷ 0 ∷ 9 ∷ 0 ∷ []
 
--- buffers of zeros, as long as is asked
-abbrev pub zeros : ℕ → Lent
-zeros each = lent table (replicate (9 * each) 0) (replicate 36 0)
+-- buffers of zeros, so many numbers a record of the output and of the scratch
+abbrev pub zeros : ℕ → ℕ → Lent
+zeros each room = lent table (replicate (9 * each) 0) (replicate (9 * room) 0)
 
 -- an output, and the scratch cleared
-abbrev pub written : List ℕ → Left
-written output = left output (replicate 36 0)
+abbrev pub written : List ℕ → ℕ → Left
+written output room = left output (replicate (9 * room) 0)

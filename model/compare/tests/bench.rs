@@ -24,8 +24,9 @@ use lent::answers::random_calls;
 use lent::{held_to_model, Buffers, Inputs, Lengths};
 use model::{read_records, remainder, Operator, Refusal};
 
-/// How many 32-bit numbers of values ground 3 asks for a record.
+/// How many 32-bit numbers of values ground 3 asks for a record, and how many 16-bit ones of scratch ground 4.
 const NUMBERS_A_RECORD: usize = 1;
+const SCRATCH_A_RECORD: usize = 4;
 
 /// What the archive answers on buffers of these lengths, held against the model.
 fn bench_on(table: &[u8], stimuli: &[u8], lengths: Lengths) -> Result<(), Refusal> {
@@ -39,7 +40,7 @@ fn bench_on(table: &[u8], stimuli: &[u8], lengths: Lengths) -> Result<(), Refusa
 
 /// What is asked for a table.
 fn asked(table: &[u8]) -> Lengths {
-    Lengths::asked(table, NUMBERS_A_RECORD)
+    Lengths::asked(table, NUMBERS_A_RECORD, SCRATCH_A_RECORD)
 }
 
 /// What the archive answers on buffers as long as asked, held against the model.

@@ -14,8 +14,9 @@ use lent::answers::random_calls;
 use lent::{held_to_model, Buffers, Inputs, Lengths};
 use model::{remainder, Refusal};
 
-/// How many bytes of a certificate ground 3 asks for a record.
+/// How many bytes of a certificate ground 3 asks for a record, and how many 16-bit numbers of scratch ground 4.
 const BYTES_A_RECORD: usize = 8;
+const SCRATCH_A_RECORD: usize = 2;
 
 /// What the archive answers on buffers of these lengths, held against the model.
 fn certify_on(table: &[u8], lengths: Lengths) -> Result<u32, Refusal> {
@@ -29,7 +30,7 @@ fn certify_on(table: &[u8], lengths: Lengths) -> Result<u32, Refusal> {
 
 /// What is asked for a table.
 fn asked(table: &[u8]) -> Lengths {
-    Lengths::asked(table, BYTES_A_RECORD)
+    Lengths::asked(table, BYTES_A_RECORD, SCRATCH_A_RECORD)
 }
 
 /// What the archive answers on buffers as long as asked, held against the model.

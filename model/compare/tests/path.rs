@@ -37,8 +37,7 @@ fn path_on(table: &[u8], variable: u32, lengths: Lengths) -> Result<u32, Refusal
 
 /// What is asked for a table.
 fn asked(table: &[u8]) -> Lengths {
-    let scratch = table.len() / 16 * SCRATCH_A_RECORD;
-    Lengths { scratch, ..Lengths::asked(table, NUMBERS_A_RECORD) }
+    Lengths::asked(table, NUMBERS_A_RECORD, SCRATCH_A_RECORD)
 }
 
 /// What the archive answers on buffers as long as asked, held against the model.

@@ -37,7 +37,7 @@ fn assert_writes_certificate(table: &[u8], printed: &str) {
     let Printed { output, errors } = run("certify", &["--bytes".into()], table, table.len().max(1));
     let n = table.len() / 16;
     let mut certificate = vec![0; n * 8];
-    match certify(table, &mut certificate, &mut vec![0; n * 4]) {
+    match certify(table, &mut certificate, &mut vec![0; n * 2]) {
         Ok(_) => assert_eq!((output, errors.as_str()), (certificate, "")),
         Err(_) => {
             let line = printed.lines().next().expect("a refusal has a line");

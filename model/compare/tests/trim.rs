@@ -23,8 +23,10 @@ use lent::answers::random_calls;
 use lent::{held_to_model, lengths_around, random_length, Buffers, Inputs, Lengths};
 use model::{read_records, remainder, Fact, Operator, Refusal};
 
-/// How many bytes of the trimmed table ground 21 asks for a record.
+/// How many bytes of the trimmed table ground 21 asks for a record, and how many 16-bit numbers of scratch
+/// ground 4.
 const BYTES_A_RECORD: usize = 16;
+const SCRATCH_A_RECORD: usize = 4;
 
 /// What the archive answers on these slices and on buffers of these lengths, held against the model.
 fn trim_slices_on(
@@ -51,7 +53,7 @@ fn trim_on(given: &Given, lengths: Lengths) -> Result<u32, Refusal> {
 
 /// What is asked for a table.
 fn asked(table: &[u8]) -> Lengths {
-    Lengths { numbers: table.len() / 16, ..Lengths::asked(table, BYTES_A_RECORD) }
+    Lengths { numbers: table.len() / 16, ..Lengths::asked(table, BYTES_A_RECORD, SCRATCH_A_RECORD) }
 }
 
 /// What the archive answers on buffers as long as asked, held against the model.

@@ -19,7 +19,8 @@ fn trim(given: &Given) -> Result<(Vec<u8>, Vec<u16>), Refusal> {
     let mut trimmed: Vec<u8> = noise(table.len()).map(|number| number as u8).collect();
     let mut numbers: Vec<u16> = noise(given.records()).collect();
     let written =
-        compare::trim(table, certificate, kept, &mut trimmed, &mut numbers, &mut scratch(table))? as usize;
+        compare::trim(table, certificate, kept, &mut trimmed, &mut numbers, &mut scratch(table, 4))?
+            as usize;
     trimmed.truncate(written * 16);
     numbers.truncate(written);
     Ok((trimmed, numbers))

@@ -195,7 +195,7 @@ pub fn certify_on(table: &[u8], certificate: usize, scratch: usize) -> Answer {
     let (mut after, mut scratch_after) = (before.clone(), scratch_before.clone());
     let answer = certify(table, &mut after, &mut scratch_after);
     check_output(answer, table.len() / 16 * 8, &before, &after);
-    let row = check_scratch(table.len() / 16 * 4, answer, &scratch_before, &scratch_after);
+    let row = check_scratch(table.len() / 16 * 2, answer, &scratch_before, &scratch_after);
     let count = answer.map_err(|refusal| refused(refusal, row))?;
     after.truncate(table.len() / 16 * 8);
     Ok((count, facts_of(&after)))
@@ -204,7 +204,7 @@ pub fn certify_on(table: &[u8], certificate: usize, scratch: usize) -> Answer {
 /// The certifying call on buffers as long as asked and so many longer.
 pub fn certify_longer(table: &[u8], longer: usize) -> Answer {
     let n = table.len() / 16;
-    certify_on(table, n * 8 + longer, n * 4 + longer)
+    certify_on(table, n * 8 + longer, n * 2 + longer)
 }
 
 /// What the bench call answers: the values, or the refusal.

@@ -69,7 +69,7 @@ impl Given {
 pub fn certificate_of(table: &[u8]) -> Vec<u8> {
     let n = table.len() / 16;
     let mut certificate = vec![0; n * 8];
-    certify(table, &mut certificate, &mut vec![0; n * 4]).expect("the table is accepted");
+    certify(table, &mut certificate, &mut vec![0; n * 2]).expect("the table is accepted");
     certificate
 }
 

@@ -20,11 +20,11 @@ pub struct Lengths {
 }
 
 impl Lengths {
-    /// What is asked for a table when the output takes so much a record, the scratch four 16-bit numbers, and no
-    /// numbers are written beside.
-    pub fn asked(table: &[u8], output_a_record: usize) -> Lengths {
+    /// What is asked for a table when the output and the scratch take so much a record, and no numbers are
+    /// written beside.
+    pub fn asked(table: &[u8], output_a_record: usize, scratch_a_record: usize) -> Lengths {
         let n = table.len() / 16;
-        Lengths { output: n * output_a_record, numbers: 0, scratch: n * 4, margin: 3 }
+        Lengths { output: n * output_a_record, numbers: 0, scratch: n * scratch_a_record, margin: 3 }
     }
 
     /// Lengths that meet those of grounds 3 and 4 that are to be met, by one.
@@ -53,15 +53,16 @@ pub fn random_length(random: &mut Random, asked: usize) -> usize {
     match random.below(20) {
         0 => asked.saturating_sub(1),
         1 => random.below(asked + 1),
-        2..=9 => asked + random.below(20),
+        2 => asked * 2,
+        3..=9 => asked + random.below(20),
         _ => asked,
     }
 }
 
-/// A buffer's lengths around the one asked for: empty, too short by half and by one, as long as asked, and
-/// longer by one and by more.
+/// A buffer's lengths around the one asked for: empty, too short by half and by one, as long as asked, longer
+/// by one and by more, and twice as long.
 pub fn lengths_around(asked: usize) -> Vec<usize> {
-    let mut lengths = vec![0, asked / 2, asked.saturating_sub(1), asked, asked + 1, asked + 9];
+    let mut lengths = vec![0, asked / 2, asked.saturating_sub(1), asked, asked + 1, asked + 9, asked * 2];
     lengths.dedup();
     lengths
 }
