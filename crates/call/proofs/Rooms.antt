@@ -10,8 +10,8 @@ use borrow.Author.Tests.{le-ltb}
 use lib.ListN.{length}
 use Rattle.circuit.specs.declared.refusal.Check.{Check}
 use Rattle.circuit.specs.Refusal.{groundNumber, Finds}
-use Rattle.call.specs.Call.{Lent, Left, Answer, accepted, refused, Call, size, checked, part, scratchWith, scratchCleared}
-use Rattle.call.specs.Call.{PastEleven, Promises}
+use Rattle.call.specs.Call.{Lent, Left, Answer, accepted, refused, Call, size, checked, part}
+use Rattle.call.specs.Call.{scratchWith, scratchCleared, PastEleven, Promises}
 use Rattle.call.specs.Rooms.{withRoom, withScratch, IgnoresScratch, RefusedLoop, SameButLoop}
 use Rattle.call.proofs.Contents.{BothLoops, contents-fixed}
 

@@ -1,5 +1,5 @@
--- Request S-9: the certificate, the count and the refusal of a call that asks four numbers of scratch a record, and is
--- lent them, are those of certify on the same table and certificate buffer, which two are enough for, the choice of loop
+-- Request S-9: a call that asks four numbers of scratch a record and is lent them, and certify, which asks two, leave
+-- equal certificates on the same table and certificate buffer, and have equal counts and refusals, the choice of loop
 -- apart.
 -- Assumes nothing.
 use mathlib.Core.Path.{_≡_, refl}

@@ -1,5 +1,5 @@
--- The certifying call with four numbers of scratch asked a record. It stands here to be compared with the one that asks
--- two, by request S-9, and for nothing else.
+-- The certifying call with four numbers of scratch asked a record. It stands here for request S-9's comparison with
+-- the one that asks two, and for nothing else.
 -- Assumes nothing.
 use mathlib.Core.Path.{_≡_, refl}
 use mathlib.Core.List.{[], _∷_}
