@@ -1,5 +1,7 @@
 // The certificate's facts worked out in the scratch, for calls that need them and do not issue them: three 16-bit
 // numbers a variable in front, with the order of the wires and registers behind them while it is needed.
+#![tactic(auto)]
+
 ghost use Rattle.std.specs.Prelude.{◌≡◌, ◌+◌, ◌*◌, ◌≤◌, length, get_or};
 ghost use Rattle.buffer.specs.Kept.{Kept, Filled};
 ghost use Rattle.buffer.specs.Store.{Stands};

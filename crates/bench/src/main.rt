@@ -1,6 +1,8 @@
 // Runs the stimuli of one file on the table of another: bench TABLE STIMULI. Prints the state in the end, or why the
 // table or the list is refused. Only reading and writing is done here; the answer and its text come from the proved
 // library `text`.
+#![tactic(auto)]
+
 ghost use Rattle.bench.specs.Contents.{Within};
 ghost use Rattle.std.specs.Prelude.{◌≤◌, length};
 
@@ -8,14 +10,14 @@ use libc::{STDERR_FILENO, STDOUT_FILENO};
 use text::bench_text;
 
 // What was read of a file: so many bytes of it; or nothing, since it cannot be read.
-#[derive(Drop)]
+#[derive(Clone, Copy)]
 enum Contents {
     Bytes(usize),
     Unreadable,
 }
 
 // One read of what a buffer does not hold any more: how many bytes past a multiple of 8 there were.
-#[derive(Drop)]
+#[derive(Clone, Copy)]
 enum Piece {
     More(usize),
     End,

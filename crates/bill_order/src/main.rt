@@ -1,5 +1,7 @@
 // Bills the order whose sizes are the arguments: bill_order SIZE... Prints the bill and each size's share, or why the
 // order is refused. Only reading and writing is done here; the answer and its text come from the proved library `text`.
+#![tactic(auto)]
+
 ghost use Rattle.bill_order.specs.Sizes.{Within};
 ghost use Rattle.std.specs.Prelude.{◌≡◌, ◌+◌, ◌≤◌, min, length, set};
 
@@ -8,14 +10,14 @@ use text::bill_text;
 use text::word::{ReadNumber, read_number};
 
 // A size; or the word is none, which was said.
-#[derive(Drop)]
+#[derive(Clone, Copy)]
 enum Size {
     Number(u32),
     Unread,
 }
 
 // So many sizes are kept; or a word is none.
-#[derive(Drop)]
+#[derive(Clone, Copy)]
 enum Sizes {
     Kept(usize),
     Unread,

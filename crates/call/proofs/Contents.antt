@@ -19,7 +19,7 @@ passed_refused check number place p q = absurd (rw p at q)
 -- a check finds one number, at one place
 pub found_once : (check : Check) (n m i j : ℕ) → Finds check n i → Finds check m j → (n ≡ m) × (i ≡ j)
 found_once Passed n m i j p q = absurd p
-found_once (Refused ground at) n m i j p q = (sym p.0 ∙ q.0, sym p.1 ∙ q.1)
+found_once (Refused reason at) n m i j p q = (sym p.0 ∙ q.0, sym p.1 ∙ q.1)
 
 refusal_unique : (check : Check) (g h : Ground) (i j : ℕ) → Finds check (ground_number g) i
     → Finds check (ground_number h) j → refused g i ≡ refused h j
@@ -31,12 +31,12 @@ same_left p q = ap₂ (λ (o : List (List ℕ)) (s : List ℕ). record { outputs
 
 -- both answers are ground 11: the outputs are equal, and equal rows give equal places and scratch
 pub record BothLoops (call : Call) (l : Lent) (e e' : Left) (a a' : Answer) : Type 0 where
-  pub ground : Ground
+  pub reason : Ground
   pub ground' : Ground
   pub place : ℕ
   pub place' : ℕ
-  pub answers : (a ≡ refused ground place) × (a' ≡ refused ground' place')
-  pub numbers : (ground_number ground ≡ 11) × (ground_number ground' ≡ 11)
+  pub answers : (a ≡ refused reason place) × (a' ≡ refused ground' place')
+  pub numbers : (ground_number reason ≡ 11) × (ground_number ground' ≡ 11)
   pub first : LoopShown call l e place
   pub second : LoopShown call l e' place'
   pub outputs : e.outputs ≡ e'.outputs
@@ -73,7 +73,7 @@ module _ (call : Call) (l : Lent)
       passed_refused (checked call l) _ _ p.passed q.first
   contents_fixed e e' (refused g i) (refused h j) (inr (inl (is, p))) (inr (inl (is', q))) =
       inr (record {
-        ground = g;
+        reason = g;
         ground' = h;
         place = i;
         place' = j;

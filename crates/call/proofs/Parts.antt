@@ -9,7 +9,7 @@ use native.Mathlib.Nat.{mul-le-mul_left, mul-one}
 use native.Mathlib.Omega.{arith}
 use lib.ListN.{length, drop, replicate}
 use Rattle.circuit.specs.declared.refusal.Ground.{Ground}
-use Rattle.circuit.specs.declared.refusal.Ground.TheVariants as ground
+use Rattle.circuit.specs.declared.refusal.Ground.TheVariants as grounds
 use Rattle.circuit.specs.declared.refusal.Check.TheVariants.{Passed, Refused}
 use Rattle.circuit.specs.Checks.{Checked}
 use Rattle.circuit.proofs.Passing.{AllLent, call_checked, call_outputs, call_scratch}
@@ -38,7 +38,7 @@ module _ (call : Call) (l : Lent) where
     -- a loop as the schedule leaves it is one as every call shows it
     pub loop_shown : {scratch : List ℕ} {place : ℕ}
         → IsLoop (circuit_of l) (part call l) l.scratch scratch place
-        → Promises call l (record { outputs = l.outputs; scratch = scratch }) (refused ground.Loop place)
+        → Promises call l (record { outputs = l.outputs; scratch = scratch }) (refused grounds.Loop place)
     loop_shown s =
         inr (inl (
           refl,

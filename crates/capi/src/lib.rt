@@ -1,4 +1,6 @@
 // The calls under C names, for a static library: the answer is packed into one number. Buffers must not overlap.
+#![tactic(auto)]
+
 ghost use Rattle.std.specs.Prelude.{◌≡◌, ◌-◌, ◌^◌, ◌<◌, min};
 ghost use Rattle.call.specs.Call.{refused, lent, left, Promises};
 ghost use Rattle.certificate.specs.Promise as certified;
@@ -16,11 +18,11 @@ use path::{Traced, path};
 use trim::{Trimmed, trim};
 
 // A refusal as one number.
-fn pack_refusal(ground: Ground, place: usize) -> u64
+fn pack_refusal(reason: Ground, place: usize) -> u64
     requires { place < 2 ^ 32 }
-    ensures { result ≡ packed (refused ground place) }
+    ensures { result ≡ packed (refused reason place) }
 {
-    ground_number(ground) * 4294967296 + place as u64
+    ground_number(reason) * 4294967296 + place as u64
 }
 
 // A certifying call's answer as one number.
@@ -30,7 +32,7 @@ fn pack_certified(answer: Certified) -> u64
 {
     match answer {
         Certified::Accepted(rounds) => rounds as u64,
-        Certified::Refused(ground, place) => pack_refusal(ground, place),
+        Certified::Refused(reason, place) => pack_refusal(reason, place),
     }
 }
 
@@ -41,7 +43,7 @@ fn pack_benched(answer: Benched) -> u64
 {
     match answer {
         Benched::Accepted => 0,
-        Benched::Refused(ground, place) => pack_refusal(ground, place),
+        Benched::Refused(reason, place) => pack_refusal(reason, place),
     }
 }
 
@@ -52,7 +54,7 @@ fn pack_billed(answer: Billed) -> u64
 {
     match answer {
         Billed::Accepted(cents) => cents as u64,
-        Billed::Refused(ground, place) => pack_refusal(ground, place),
+        Billed::Refused(reason, place) => pack_refusal(reason, place),
     }
 }
 
@@ -73,7 +75,7 @@ fn pack_trimmed(answer: Trimmed) -> u64
 {
     match answer {
         Trimmed::Accepted(count) => count as u64,
-        Trimmed::Refused(ground, place) => pack_refusal(ground, cut_place(place)),
+        Trimmed::Refused(reason, place) => pack_refusal(reason, cut_place(place)),
     }
 }
 
@@ -84,7 +86,7 @@ fn pack_path(answer: Traced) -> u64
 {
     match answer {
         Traced::Accepted(size) => size as u64,
-        Traced::Refused(ground, place) => pack_refusal(ground, place),
+        Traced::Refused(reason, place) => pack_refusal(reason, place),
     }
 }
 

@@ -1,4 +1,6 @@
 // The certifying call on lent buffers: grounds 1 to 11, the rounds, the certificate.
+#![tactic(auto)]
+
 ghost use Rattle.std.specs.Prelude.{◌≡◌, ◌++◌, ◌*◌, drop, replicate};
 ghost use Rattle.buffer.specs.Store.{Holds};
 ghost use Rattle.circuit.specs.declared.refusal.Check.TheVariants.{Passed};
@@ -26,7 +28,7 @@ const EACH: usize = 8;
 const ROOM: usize = 2;
 
 // The number of rounds of an accepted table; or the ground on which it is turned down, with its place.
-#[derive(Drop)]
+#[derive(Clone, Copy)]
 pub enum Certified {
     Accepted(u32),
     Refused(Ground, usize),
@@ -89,7 +91,7 @@ pub fn certify(table: &[u8], certificate: &mut [u8], scratch: &mut [u16]) -> Cer
     let powers = power_table();
     let check = check_call(table, certificate.len(), EACH, scratch.len(), ROOM, &powers);
     match check {
-        Check::Refused(ground, place) => Certified::Refused(ground, place),
+        Check::Refused(reason, place) => Certified::Refused(reason, place),
         Check::Passed => certify_checked(table, certificate, scratch, &powers),
     }
 }

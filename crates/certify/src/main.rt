@@ -1,5 +1,7 @@
 // Reads a table from standard input and prints its certificate as text, or with --bytes as 8 bytes a variable; or why
 // it is refused. Only reading and writing is done here; the answer and its text come from the proved library `text`.
+#![tactic(auto)]
+
 use libc::{STDERR_FILENO, STDIN_FILENO, STDOUT_FILENO};
 use text::{Report, certify_bytes, certify_text};
 

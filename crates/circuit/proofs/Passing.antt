@@ -12,13 +12,13 @@ use Rattle.circuit.specs.Checks.{check_length, check_output, check_scratch, chec
 -- two checks pass where each does
 pub then_passed : (a b : Check) → (a then b) ≡ Passed → (a ≡ Passed) × (b ≡ Passed)
 then_passed Passed b e = (refl, e)
-then_passed (Refused ground place) b e = absurd (let z : ◌≡◌ {A = ℕ} 0 1 = cc in omega arith)
+then_passed (Refused reason place) b e = absurd (let z : ◌≡◌ {A = ℕ} 0 1 = cc in omega arith)
 
 -- a test that does not refuse fails, and what is tried next passes
-pub refuse_passed : (ground : Ground) (place : ℕ) (b : Bool) (next : Check) → refuse ground place b next ≡ Passed
+pub refuse_passed : (reason : Ground) (place : ℕ) (b : Bool) (next : Check) → refuse reason place b next ≡ Passed
     → (b ≡ false) × (next ≡ Passed)
-refuse_passed ground place true next e = absurd (let z : ◌≡◌ {A = ℕ} 0 1 = cc in omega arith)
-refuse_passed ground place false next e = (refl, e)
+refuse_passed reason place true next e = absurd (let z : ◌≡◌ {A = ℕ} 0 1 = cc in omega arith)
+refuse_passed reason place false next e = (refl, e)
 
 pub length_most : (bytes : ℕ) → check_length bytes ≡ Passed → bytes ≤ 65536
 length_most bytes e = ltb-false 65536 bytes (refuse_passed TableTooLong 0 (ltb 65536 bytes) _ e).0

@@ -57,8 +57,8 @@ abbrev numbered : ℕ → Ground
 numbered number = get_or grounds (number - 1) ForeignCertificate
 
 -- a ground has its number's place among them
-ground_number_lem : (ground : Ground)
-    → (numbered (ground_number ground) ≡ ground) × (1 ≤ ground_number ground) × (ground_number ground ≤ 99)
+ground_number_lem : (reason : Ground)
+    → (numbered (ground_number reason) ≡ reason) × (1 ≤ ground_number reason) × (ground_number reason ≤ 99)
 ground_number_lem TableTooLong = (refl, omega arith, omega arith)
 ground_number_lem TableNotWhole = (refl, omega arith, omega arith)
 ground_number_lem OutputShort = (refl, omega arith, omega arith)
@@ -84,61 +84,61 @@ ground_number_lem BadCertificate = (refl, omega arith, omega arith)
 ground_number_lem NotMarked = (refl, omega arith, omega arith)
 ground_number_lem ForeignCertificate = (refl, omega arith, omega arith)
 
-pub ground_range : (ground : Ground) → (1 ≤ ground_number ground) × (ground_number ground ≤ 99)
-ground_range ground = let n = ground_number_lem ground in (n.1, n.2)
+pub ground_range : (reason : Ground) → (1 ≤ ground_number reason) × (ground_number reason ≤ 99)
+ground_range reason = let n = ground_number_lem reason in (n.1, n.2)
 
 -- a ground's number tells it
 pub ground_told : (g h : Ground) → ground_number g ≡ ground_number h → g ≡ h
 ground_told g h e = sym (ground_number_lem g).0 ∙ ap numbered e ∙ (ground_number_lem h).0
 
 -- what a check finds by its number is what it is refused on
-pub refused_finds : {c : Check} {ground : Ground} {place : ℕ} → c ≡ check.Refused ground place
-    → Finds c (ground_number ground) place
+pub refused_finds : {c : Check} {reason : Ground} {place : ℕ} → c ≡ check.Refused reason place
+    → Finds c (ground_number reason) place
 refused_finds e = rw e (refl, refl)
 
-finds_refused : (c : Check) (ground : Ground) (place : ℕ) → Finds c (ground_number ground) place
-    → c ≡ check.Refused ground place
-finds_refused check.Passed ground place f = absurd f
-finds_refused (check.Refused other at) ground place f = ap₂ check.Refused (ground_told other ground f.0) f.1
+finds_refused : (c : Check) (reason : Ground) (place : ℕ) → Finds c (ground_number reason) place
+    → c ≡ check.Refused reason place
+finds_refused check.Passed reason place f = absurd f
+finds_refused (check.Refused other at) reason place f = ap₂ check.Refused (ground_told other reason f.0) f.1
 
 -- ---- the ground and the place of a refusal
 
 -- what P says of a ground and a place holds of a check's refusal, if it is one
 abbrev pub Refusals : (Ground → ℕ → Type 0) → Check → Type 0
 Refusals P check.Passed = Unit {0}
-Refusals P (check.Refused ground place) = P ground place
+Refusals P (check.Refused reason place) = P reason place
 
 -- so it holds of what the check finds
-pub refusal_found : (P : Ground → ℕ → Type 0) (c : Check) (ground : Ground) (place : ℕ) → Refusals P c
-    → Finds c (ground_number ground) place → P ground place
-refusal_found P c ground place h f = subst (λ (x : Check). Refusals P x) (finds_refused c ground place f) h
+pub refusal_found : (P : Ground → ℕ → Type 0) (c : Check) (reason : Ground) (place : ℕ) → Refusals P c
+    → Finds c (ground_number reason) place → P reason place
+refusal_found P c reason place h f = subst (λ (x : Check). Refusals P x) (finds_refused c reason place f) h
 
 pub refusals_weaken : (P Q : Ground → ℕ → Type 0) (c : Check)
-    → ((ground : Ground) (place : ℕ) → P ground place → Q ground place) → Refusals P c → Refusals Q c
+    → ((reason : Ground) (place : ℕ) → P reason place → Q reason place) → Refusals P c → Refusals Q c
 refusals_weaken P Q check.Passed w h = tt
-refusals_weaken P Q (check.Refused ground place) w h = w ground place h
+refusals_weaken P Q (check.Refused reason place) w h = w reason place h
 
 module _ (P : Ground → ℕ → Type 0) where
   -- the first refusal of two checks is that of one of them, of the second only where the first passes
   pub then_refusals : (a b : Check) → Refusals P a → (a ≡ check.Passed → Refusals P b) → Refusals P (a then b)
   then_refusals check.Passed b h k = k refl
-  then_refusals (check.Refused ground place) b h k = h
+  then_refusals (check.Refused reason place) b h k = h
 
   -- the refusal of a test is its own where it holds, else that of what is tried next
-  pub refuse_tested : (ground : Ground) (place : ℕ) (b : Bool) (next : Check) → (b ≡ true → P ground place)
-      → (b ≡ false → Refusals P next) → Refusals P (refuse ground place b next)
-  refuse_tested ground place true next h k = h refl
-  refuse_tested ground place false next h k = k refl
+  pub refuse_tested : (reason : Ground) (place : ℕ) (b : Bool) (next : Check) → (b ≡ true → P reason place)
+      → (b ≡ false → Refusals P next) → Refusals P (refuse reason place b next)
+  refuse_tested reason place true next h k = h refl
+  refuse_tested reason place false next h k = k refl
 
-  pub refuse_refusals : (ground : Ground) (place : ℕ) (b : Bool) (next : Check) → P ground place
-      → (b ≡ false → Refusals P next) → Refusals P (refuse ground place b next)
-  refuse_refusals ground place b next h k = refuse_tested ground place b next (λ _. h) k
+  pub refuse_refusals : (reason : Ground) (place : ℕ) (b : Bool) (next : Check) → P reason place
+      → (b ≡ false → Refusals P next) → Refusals P (refuse reason place b next)
+  refuse_refusals reason place b next h k = refuse_tested reason place b next (λ _. h) k
 
 -- ---- grounds 1 to 10
 
 -- one of them, at a place up to `end`
 abbrev OfTable : ℕ → Ground → ℕ → Type 0
-OfTable end ground place = (ground_number ground ≤ 10) × (place ≤ end)
+OfTable end reason place = (ground_number reason ≤ 10) × (place ≤ end)
 
 -- whatever the six tests of a record say
 tests_refusals : (b₅ b₆ b₇ b₈ b₉ b₁₀ : Bool) (r : Record) (i end : ℕ) → i ≤ end
@@ -184,7 +184,7 @@ outputs_refusals n end (o ∷ os) next h =
     (λ _. outputs_refusals n end os next h)
 
 pub call_refusals : (t : List ℕ) (outputs : List Asked) (scratch : Asked)
-    → Refusals (λ ground place. (ground_number ground ≤ 10) × (place ≤ 4096)) (check_call t outputs scratch)
+    → Refusals (λ reason place. (ground_number reason ≤ 10) × (place ≤ 4096)) (check_call t outputs scratch)
 unfolding check_records
 call_refusals t outputs scratch =
     then_refusals (OfTable 4096) (check_length (length t)) _
@@ -204,7 +204,7 @@ call_refusals t outputs scratch =
 
 -- one that is tried after ground 11, at a place up to `end`
 abbrev OfList : ℕ → Ground → ℕ → Type 0
-OfList end ground place = (12 ≤ ground_number ground) × (place ≤ end)
+OfList end reason place = (12 ≤ ground_number reason) × (place ≤ end)
 
 module _ (P : Ground → ℕ → Type 0) (c : Circuit) (i : ℕ) where
   -- what is said of a value that is too wide for an input which is not fixed to another
@@ -247,7 +247,7 @@ module _ (P : Ground → ℕ → Type 0) (c : Circuit) (s : List ℕ) where
       (λ few. each_refusals (length s / 8) 0 (λ j low high. each (ltb-false 4096 _ few) j (omega arith))))
 
 pub stimuli_refusals : (c : Circuit) (s : List ℕ)
-    → Refusals (λ ground place. (12 ≤ ground_number ground) × (place ≤ 4096)) (check_stimuli c s)
+    → Refusals (λ reason place. (12 ≤ ground_number reason) × (place ≤ 4096)) (check_stimuli c s)
 stimuli_refusals c s =
     list_refusals (OfList 4096) c s (omega arith, omega arith) (omega arith, omega arith)
     (λ few i h.

@@ -45,10 +45,10 @@ pub record Valid (f : Fields) (n : ℕ) : Type 0 where
   pub value : f.value < 2 ^ f.width
 
 -- a test that does not refuse_record fails, and what is tried next gives the record
-passed : (ground : Ground) (b : Bool) (next : ReadRecord) (r : Record) → refuse_record ground b next ≡ Read r
+passed : (reason : Ground) (b : Bool) (next : ReadRecord) (r : Record) → refuse_record reason b next ≡ Read r
     → (b ≡ false) × (next ≡ Read r)
-passed ground true next r e = absurd (let z : ◌≡◌ {A = ℕ} 0 1 = cc in omega arith)
-passed ground false next r e = (refl, e)
+passed reason true next r e = absurd (let z : ◌≡◌ {A = ℕ} 0 1 = cc in omega arith)
+passed reason false next r e = (refl, e)
 
 pub both_false : (a b : Bool) → (a || b) ≡ false → (a ≡ false) × (b ≡ false)
 both_false true b e = absurd (let z : ◌≡◌ {A = ℕ} 0 1 = cc in omega arith)

@@ -24,10 +24,10 @@ module _ (t : List ℕ) (n : ℕ) where
     unfolding check_records_from
     scan_more h r e = rw (steps_left n i h, e)
 
-    pub scan_refused : i < n → (ground : Ground) → read_record (fields_at t (i * 16)) n ≡ Refused ground
-        → check_records_from t n (n - i) i ≡ check.Refused ground i
+    pub scan_refused : i < n → (reason : Ground) → read_record (fields_at t (i * 16)) n ≡ Refused reason
+        → check_records_from t n (n - i) i ≡ check.Refused reason i
     unfolding check_records_from
-    scan_refused h ground e = rw (steps_left n i h, e)
+    scan_refused h reason e = rw (steps_left n i h, e)
 
     pub scan_end : n ≤ i → check_records_from t n (n - i) i ≡ check.Passed
     unfolding check_records_from

@@ -27,7 +27,7 @@ use Rattle.circuit.proofs.Numbers.{fields_encoded}
 
 record_read : (x : ReadRecord) (i : ℕ) → at_record x i ≡ check.Passed → (r : Record) × (x ≡ Read r)
 record_read (Read r) i e = (r, refl)
-record_read (Refused ground) i e = absurd (let z : ◌≡◌ {A = ℕ} 0 1 = cc in omega arith)
+record_read (Refused reason) i e = absurd (let z : ◌≡◌ {A = ℕ} 0 1 = cc in omega arith)
 
 valid_from : (t : List ℕ) (n count i : ℕ) → check_records_from t n count i ≡ check.Passed
     → (j : ℕ) → i ≤ j → j < i + count → Valid (fields_at t (j * 16)) n

@@ -57,10 +57,10 @@ module _ (t : List ℕ) (n : ℕ) (valid : check_records t n ≡ Passed) (s : Li
 
   -- what is said of a refusal on ground 16, and of no other
   abbrev Wide : Ground → ℕ → Type 0
-  Wide ground i = ground_number ground ≡ 16 → WidePoke c s i
+  Wide reason i = ground_number reason ≡ 16 → WidePoke c s i
 
   -- a list that is refused on ground 16 has such a poke at the place
-  pub wide_refusals : Refusals (λ ground place. ground_number ground ≡ 16 → WidePoke (circuit t n) s place)
+  pub wide_refusals : Refusals (λ reason place. ground_number reason ≡ 16 → WidePoke (circuit t n) s place)
       (check_stimuli (circuit t n) s)
   wide_refusals =
       list_refusals Wide c s (λ e. absurd (omega (arith, e))) (λ e. absurd (omega (arith, e)))

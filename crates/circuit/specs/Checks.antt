@@ -28,7 +28,7 @@ check_scratch lent asked = refuse ScratchShort 0 (nat_lt lent asked) check.Passe
 -- a record's refusal has the record as its place
 abbrev pub at_record : ReadRecord → ℕ → Check
 at_record (Read r) i = check.Passed
-at_record (Refused ground) i = check.Refused ground i
+at_record (Refused reason) i = check.Refused reason i
 
 -- grounds 5 to 10 of `count` records from record i on, in a table of n records
 unfoldable pub check_records_from : List ℕ → ℕ → ℕ → ℕ → Check

@@ -64,24 +64,24 @@ good =
 
 -- a change to what is given, document 01's number of the ground that it meets, and the place
 pub record Fault : Type 0 where
-  pub ground : ℕ
+  pub reason : ℕ
   pub place : ℕ
   pub made : Given → Given
 
 -- a change to the table, to the list of stimuli, to what is lent
 abbrev in_table : ℕ → ℕ → (List ℕ → List ℕ) → Fault
-in_table ground place change =
+in_table reason place change =
     record {
-      ground = ground;
+      reason = reason;
       place = place;
       made = λ g.
           record { table = change g.table; output = g.output; scratch = g.scratch; stimuli = g.stimuli };
     }
 
 abbrev in_stimuli : ℕ → ℕ → (List ℕ → List ℕ) → Fault
-in_stimuli ground place change =
+in_stimuli reason place change =
     record {
-      ground = ground;
+      reason = reason;
       place = place;
       made = λ g.
           record { table = g.table; output = g.output; scratch = g.scratch; stimuli = change g.stimuli };
@@ -89,16 +89,16 @@ in_stimuli ground place change =
 
 -- byte b of record i is x, and so of stimulus i
 abbrev record_byte : ℕ → ℕ → ℕ → ℕ → Fault
-record_byte ground i b x = in_table ground i (λ t. slice_set t (i * 16 + b) x)
+record_byte reason i b x = in_table reason i (λ t. slice_set t (i * 16 + b) x)
 
 abbrev stimulus_byte : ℕ → ℕ → ℕ → ℕ → Fault
-stimulus_byte ground i b x = in_stimuli ground i (λ s. slice_set s (i * 8 + b) x)
+stimulus_byte reason i b x = in_stimuli reason i (λ s. slice_set s (i * 8 + b) x)
 
 -- a table of 4,097 records, 65,552 bytes, with as much lent as it asks
 abbrev too_long : Fault
 too_long =
     record {
-      ground = 1;
+      reason = 1;
       place = 0;
       made = λ g.
           record {
@@ -112,7 +112,7 @@ too_long =
 abbrev output_short : Fault
 output_short =
     record {
-      ground = 3;
+      reason = 3;
       place = 0;
       made = λ g. record { table = g.table; output = 6; scratch = g.scratch; stimuli = g.stimuli };
     }
@@ -120,7 +120,7 @@ output_short =
 abbrev scratch_short : Fault
 scratch_short =
     record {
-      ground = 4;
+      reason = 4;
       place = 0;
       made = λ g. record { table = g.table; output = g.output; scratch = 27; stimuli = g.stimuli };
     }
@@ -176,12 +176,12 @@ with (f ∷ fs) = f.made (with fs)
 -- what a check finds, by the ground's number, and the place; nothing where it passes
 abbrev pub told : Check → List ℕ
 told Passed = []
-told (Refused ground place) = ground_number ground ∷ place ∷ []
+told (Refused reason place) = ground_number reason ∷ place ∷ []
 
 -- the first fault of a row, told alike
 abbrev pub first_of : List Fault → List ℕ
 first_of [] = []
-first_of (f ∷ fs) = f.ground ∷ f.place ∷ []
+first_of (f ∷ fs) = f.reason ∷ f.place ∷ []
 
 abbrev alone : Fault → List Fault
 alone f = f ∷ []

@@ -136,8 +136,8 @@ unused (Enabled w a b n) f = f.c ∷ []
 
 -- refused on a ground where the test holds; else what is tried next
 abbrev pub refuse_record : Ground → Bool → ReadRecord → ReadRecord
-refuse_record ground true next = Refused ground
-refuse_record ground false next = next
+refuse_record reason true next = Refused reason
+refuse_record reason false next = next
 
 -- Grounds 5 to 10, in order, of a record among n records. Where ground 10 is tried, a value that is not used is 0.
 unfoldable pub read_record : Fields → ℕ → ReadRecord

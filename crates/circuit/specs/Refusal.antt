@@ -37,21 +37,21 @@ ground_number ForeignCertificate = 24
 
 -- refused on a ground, at a place, where the test holds; else what is tried next
 abbrev pub refuse : Ground → ℕ → Bool → Check → Check
-refuse ground place true next = Refused ground place
-refuse ground place false next = next
+refuse reason place true next = Refused reason place
+refuse reason place false next = next
 
 -- refused on a ground at the first of `count` numbers from i on of which the test holds
 unfoldable pub refuse_first : Ground → (ℕ → Bool) → ℕ → ℕ → Check
-refuse_first ground test zero i = Passed
-refuse_first ground test (suc count) i = refuse ground i (test i) (refuse_first ground test count (i + 1))
+refuse_first reason test zero i = Passed
+refuse_first reason test (suc count) i = refuse reason i (test i) (refuse_first reason test count (i + 1))
 
 -- a check finds a ground by its number, at a place
 abbrev pub Finds : Check → ℕ → ℕ → Type 0
 Finds Passed number place = ⊥
-Finds (Refused ground at) number place = (ground_number ground ≡ number) × (at ≡ place)
+Finds (Refused reason at) number place = (ground_number reason ≡ number) × (at ≡ place)
 
 infixr 20 ◌then◌
 -- the first refusal of two checks
 abbrev pub ◌then◌ : Check → Check → Check
 Passed then next = next
-Refused ground place then next = Refused ground place
+Refused reason place then next = Refused reason place

@@ -69,7 +69,7 @@ fixed_to_other none x = false
 
 -- grounds 14 to 17 of stimulus i: a poke names an input of the table, with a value that a fixed one has and that fits
 abbrev pub check_stimulus : Circuit → ReadStimulus → ℕ → Check
-check_stimulus c (Refused ground) i = check.Refused ground i
+check_stimulus c (Refused reason) i = check.Refused reason i
 check_stimulus c (Read Tick) i = check.Passed
 check_stimulus c (Read (Poke v x)) i =
     refuse NotAnInput i (not (nat_lt v (length c) && is_input (input_of (record_of c v))))

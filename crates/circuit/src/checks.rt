@@ -46,7 +46,7 @@ fn at_record(read: ReadRecord, i: usize) -> Check
 {
     match read {
         ReadRecord::Read(_) => Check::Passed,
-        ReadRecord::Refused(ground) => Check::Refused(ground, i),
+        ReadRecord::Refused(reason) => Check::Refused(reason, i),
     }
 }
 

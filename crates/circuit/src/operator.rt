@@ -5,7 +5,7 @@ ghost use Rattle.circuit.specs.Powers.{Powers};
 ghost use Rattle.circuit.specs.Machine as machine;
 
 // The operators in the order of their codes.
-#[derive(Drop)]
+#[derive(Clone, Copy)]
 pub enum Operator {
     Add,
     Sub,
@@ -19,7 +19,7 @@ pub enum Operator {
 }
 
 // What a code byte reads as.
-#[derive(Drop)]
+#[derive(Clone, Copy)]
 pub enum ReadOperator {
     Is(Operator),
     None,

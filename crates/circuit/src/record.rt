@@ -12,7 +12,7 @@ use crate::operator::{Operator, PowerTable, ReadOperator, power_in, read_operato
 use crate::refusal::Ground;
 
 // The 16 bytes, field by field.
-#[derive(Drop)]
+#[derive(Clone, Copy)]
 pub struct Fields {
     pub kind: u8,
     pub width: u8,
@@ -26,7 +26,7 @@ pub struct Fields {
 }
 
 // The six kinds, in the order of byte 0.
-#[derive(Drop)]
+#[derive(Clone, Copy)]
 pub enum Kind {
     Input,
     Constant,
@@ -36,21 +36,21 @@ pub enum Kind {
     Enabled,
 }
 
-#[derive(Drop)]
+#[derive(Clone, Copy)]
 pub enum ReadKind {
     Is(Kind),
     None,
 }
 
 // An input is fixed to a number, free or secret.
-#[derive(Drop)]
+#[derive(Clone, Copy)]
 pub enum InputKind {
     Fixed(u32),
     Free,
     Secret,
 }
 
-#[derive(Drop)]
+#[derive(Clone, Copy)]
 pub enum ReadInput {
     Is(InputKind),
     None,
@@ -58,7 +58,7 @@ pub enum ReadInput {
 
 // One of six kinds, each with its width first. A register's last number is its power-on value; one with an enable has
 // its data and its enable before it.
-#[derive(Drop)]
+#[derive(Clone, Copy)]
 pub enum Record {
     Input(u8, InputKind),
     Constant(u8, u32),
@@ -69,7 +69,7 @@ pub enum Record {
 }
 
 // What a record's fields read as.
-#[derive(Drop)]
+#[derive(Clone, Copy)]
 pub enum ReadRecord {
     Read(Record),
     Refused(Ground),

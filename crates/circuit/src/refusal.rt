@@ -2,7 +2,7 @@
 ghost use Rattle.std.specs.Prelude.{◌≡◌};
 ghost use Rattle.circuit.specs.Refusal.{ground_number};
 
-#[derive(Drop)]
+#[derive(Clone, Copy)]
 pub enum Ground {
     TableTooLong,
     TableNotWhole,
@@ -31,17 +31,17 @@ pub enum Ground {
 }
 
 // No ground holds, or the first that does, with its place.
-#[derive(Drop)]
+#[derive(Clone, Copy)]
 pub enum Check {
     Passed,
     Refused(Ground, usize),
 }
 
 // A ground's number.
-pub fn ground_number(ground: Ground) -> u64
-    ensures { result ≡ ground_number ground }
+pub fn ground_number(reason: Ground) -> u64
+    ensures { result ≡ ground_number reason }
 {
-    match ground {
+    match reason {
         Ground::TableTooLong => 1,
         Ground::TableNotWhole => 2,
         Ground::OutputShort => 3,

@@ -2,7 +2,7 @@
 use crate::refusal::Ground;
 use net::Stimulus;
 
-#[derive(Drop)]
+#[derive(Clone, Copy)]
 pub enum ReadStimulus {
     Read(Stimulus),
     Refused(Ground),

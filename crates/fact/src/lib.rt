@@ -1,5 +1,7 @@
 // Facts about the variables of a circuit: their order, the rule of each kind of record, the rounds, and the
 // certificate. Document 01's cases A to J, C as request S-3 has it, are proved here from bytes.
+#![tactic(auto)]
+
 pub mod cell;
 
 ghost use Rattle.std.specs.Prelude.{◌≡◌, false, ◌≤◌, eqb};
@@ -12,7 +14,7 @@ use circuit::operator::{Operator, PowerTable, evaluate, operator_code, power_in,
 use circuit::record::InputKind;
 
 // What is known of a variable: it always holds one number, it is open, or it is marked, as a secret input can reach it.
-#[derive(Drop)]
+#[derive(Clone, Copy)]
 pub enum Fact {
     Always(u32),
     Open,

@@ -1,5 +1,7 @@
 // Demand 3 over the two calls: what a certificate claims of two runs of its table. One function makes the three calls,
 // and its contract is the claim.
+#![tactic(auto)]
+
 ghost use Rattle.call.specs.Call.{lent, left};
 ghost use Rattle.guarantee.specs.Guarantee.{Guarantees};
 
@@ -7,7 +9,7 @@ use certificate::{Certified, certify};
 use machine::{Benched, bench};
 
 // The answers of a certifying call and of two bench calls.
-#[derive(Drop)]
+#[derive(Clone, Copy)]
 pub struct Answers {
     pub certified: Certified,
     pub first: Benched,

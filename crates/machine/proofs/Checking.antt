@@ -63,11 +63,11 @@ module _ (c : Circuit) (s : List ℕ) (count : ℕ) where
     unfolding check_stimuli_from
     each_more h e = rw (left h, e)
 
-    pub each_refused : i < count → (ground : Ground) (place : ℕ)
-        → check_stimulus c (read_stimulus s (i * 8)) i ≡ Refused ground place
-        → check_stimuli_from c s (count - i) i ≡ Refused ground place
+    pub each_refused : i < count → (reason : Ground) (place : ℕ)
+        → check_stimulus c (read_stimulus s (i * 8)) i ≡ Refused reason place
+        → check_stimuli_from c s (count - i) i ≡ Refused reason place
     unfolding check_stimuli_from
-    each_refused h ground place e = rw (left h, e)
+    each_refused h reason place e = rw (left h, e)
 
     pub each_end : count ≤ i → check_stimuli_from c s (count - i) i ≡ Passed
     unfolding check_stimuli_from

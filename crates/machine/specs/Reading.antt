@@ -14,4 +14,4 @@ moved r = record { stimuli = r.stimuli; at = r.at + 8 }
 -- the stimulus that was read; ground 14, of which a list that passed has none, would be a tick
 abbrev pub stimulus_in : ReadStimulus → Stimulus
 stimulus_in (Read x) = x
-stimulus_in (Refused ground) = Tick
+stimulus_in (Refused reason) = Tick

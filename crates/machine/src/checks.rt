@@ -2,7 +2,7 @@
 ghost use Rattle.std.specs.Prelude.{◌≡◌, ◌*◌, ◌^◌, ◌≤◌, leb, length};
 ghost use Rattle.std.proofs.Math.Option.{some};
 ghost use Rattle.net.specs.declared.Stimulus.TheVariants.{Poke};
-ghost use Rattle.circuit.specs.declared.refusal.Ground.TheVariants as ground;
+ghost use Rattle.circuit.specs.declared.refusal.Ground.TheVariants as grounds;
 ghost use Rattle.circuit.specs.declared.refusal.Check.TheVariants as check;
 ghost use Rattle.circuit.specs.declared.stimulus.ReadStimulus.TheVariants.{Read};
 ghost use Rattle.circuit.specs.Refusal.{refuse};
@@ -33,8 +33,8 @@ fn fixed_to_other(kind: InputKind, x: u32) -> bool
 // Grounds 17 and 16, in this order, of stimulus i, which pokes an input with x.
 fn check_value(w: u8, kind: InputKind, x: u32, i: usize) -> Check
     requires { w ≤ 32 }
-    ensures { result ≡ refuse ground.FixedInput i (fixed_to_other (some kind) x)
-        (refuse ground.PokeTooWide i (leb (2 ^ w) x) check.Passed) }
+    ensures { result ≡ refuse grounds.FixedInput i (fixed_to_other (some kind) x)
+        (refuse grounds.PokeTooWide i (leb (2 ^ w) x) check.Passed) }
 {
     let tied = fixed_to_other(kind, x);
     let unfit = too_wide(x, w, power(w));
@@ -72,7 +72,7 @@ fn check_stimulus(t: &[u8], n: usize, read: ReadStimulus, i: usize) -> Check
     ensures { result ≡ check_stimulus (circuit t.now n) read i }
 {
     match read {
-        ReadStimulus::Refused(ground) => Check::Refused(ground, i),
+        ReadStimulus::Refused(reason) => Check::Refused(reason, i),
         ReadStimulus::Read(stimulus) => match stimulus {
             Stimulus::Tick => Check::Passed,
             Stimulus::Poke(v, x) => check_poke(t, n, wide(v), x, i),

@@ -1,5 +1,7 @@
 // The bench call on lent buffers: grounds 1 to 17, power-on, pokes and ticks, the state in the end. The state is one
 // number a variable, in the lent output; the order of the wires, and what a tick stages, stand in the lent scratch.
+#![tactic(auto)]
+
 ghost use Rattle.std.specs.Prelude.{◌≡◌, ◌++◌, ◌+◌, ◌*◌, drop, replicate};
 ghost use Rattle.buffer.specs.Kept.{KeptOutside};
 ghost use Rattle.buffer.specs.Store.{numbers};
@@ -32,7 +34,7 @@ const EACH: usize = 1;
 const ROOM: usize = 4;
 
 // The list has run; or the ground on which the table or the list is turned down, with its place.
-#[derive(Drop)]
+#[derive(Clone, Copy)]
 pub enum Benched {
     Accepted,
     Refused(Ground, usize),
@@ -55,7 +57,7 @@ fn bench_list(
 {
     let check = check_stimuli(t, n, s);
     match check {
-        Check::Refused(ground, place) => Benched::Refused(ground, place),
+        Check::Refused(reason, place) => Benched::Refused(reason, place),
         Check::Passed => {
             power_on(t, n, scratch, wires, values);
             run(t, n, s, scratch, wires, registers, values);
@@ -110,7 +112,7 @@ pub fn bench(table: &[u8], stimuli: &[u8], values: &mut [u32], scratch: &mut [u1
     let powers = power_table();
     let check = check_call(table, values.len(), EACH, scratch.len(), ROOM, &powers);
     match check {
-        Check::Refused(ground, place) => Benched::Refused(ground, place),
+        Check::Refused(reason, place) => Benched::Refused(reason, place),
         Check::Passed => bench_checked(table, stimuli, values, scratch),
     }
 }

@@ -16,7 +16,7 @@ pub struct StimulusReader<'a> {
 }
 
 // What a record reads as, and the place of the one behind it.
-#[derive(Drop)]
+#[derive(Clone, Copy)]
 pub struct ReadNext {
     pub read: ReadStimulus,
     pub at: usize,

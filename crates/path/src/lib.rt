@@ -1,5 +1,7 @@
 // The path call on lent buffers: grounds 1 to 11 and 23, then the shortest row of marked variables from a variable to a
 // secret input, of equally short ones the lowest.
+#![tactic(auto)]
+
 ghost use Rattle.std.specs.Prelude.{◌≡◌, ◌&&◌, ◌++◌, ℕ, ◌*◌, ◌≤◌, ◌<◌, eqb, ltb, length, get_or, drop, replicate};
 ghost use Rattle.buffer.specs.Kept.{KeptOutside};
 ghost use Rattle.circuit.specs.declared.refusal.Check.TheVariants.{Passed};
@@ -31,7 +33,7 @@ const EACH: usize = 1;
 const ROOM: usize = 8;
 
 // The length of the row; or the ground on which the call is turned down, with its place.
-#[derive(Drop)]
+#[derive(Clone, Copy)]
 pub enum Traced {
     Accepted(usize),
     Refused(Ground, usize),
@@ -125,7 +127,7 @@ pub fn path(table: &[u8], variable: u32, row: &mut [u16], scratch: &mut [u16]) -
     let powers = power_table();
     let check = check_call(table, row.len(), EACH, scratch.len(), ROOM, &powers);
     match check {
-        Check::Refused(ground, place) => Traced::Refused(ground, place),
+        Check::Refused(reason, place) => Traced::Refused(reason, place),
         Check::Passed => path_checked(table, variable as usize, row, scratch, &powers),
     }
 }

@@ -11,7 +11,7 @@ use circuit::table::{a_at, b_at, c_at, kind_at};
 use fact::Fact;
 
 // Three numbers in ascending order; where there are fewer, some stand more than once.
-#[derive(Drop)]
+#[derive(Clone, Copy)]
 pub struct Three {
     pub first: usize,
     pub second: usize,

@@ -1,5 +1,7 @@
 // The schedule of a circuit: its wires in an order in which each stands after the wires that it uses, or a loop. In
 // linear time, without recursion, in lent memory.
+#![tactic(auto)]
+
 ghost use Rattle.std.specs.Prelude.{◌≡◌, ◌+◌, ◌-◌, ◌≤◌, ◌<◌, length, get_or};
 ghost use Rattle.circuit.specs.Circuit.{circuit};
 ghost use Rattle.circuit.specs.Checks.{Checked};
@@ -14,7 +16,7 @@ mod rotate;
 mod walk;
 
 // An order, with how many wires and how many registers there are; or a loop, with its length.
-#[derive(Drop)]
+#[derive(Clone, Copy)]
 pub enum Outcome {
     Order(usize, usize),
     Loop(usize),

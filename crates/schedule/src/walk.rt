@@ -14,7 +14,7 @@ use circuit::table::{use_at, wire_uses};
 const FINISHED: u16 = 5;
 
 // The next variable to start from, how many wires are finished, and where the top of the stack stands.
-#[derive(Drop)]
+#[derive(Clone, Copy)]
 pub struct Walk {
     pub root: usize,
     pub finished: usize,
@@ -23,7 +23,7 @@ pub struct Walk {
 
 // The top of the stack with no use left, or with a next use that is done; or its next use, a wire that is unvisited or
 // on the stack.
-#[derive(Drop)]
+#[derive(Clone, Copy)]
 pub enum NextUse {
     NoneLeft(usize),
     Done(usize),
@@ -32,14 +32,14 @@ pub enum NextUse {
 }
 
 // The walk goes on, or the top uses a wire that is on the stack.
-#[derive(Drop)]
+#[derive(Clone, Copy)]
 pub enum Step {
     On(Walk),
     Closes(usize),
 }
 
 // All wires are finished, this many; or the stack closes: its top, and the wire on it that the top uses.
-#[derive(Drop)]
+#[derive(Clone, Copy)]
 pub enum Visited {
     All(usize),
     Loop(usize, usize),

@@ -1,5 +1,7 @@
 // Reads tables from standard input, checks and schedules each, and prints one line a table. A table is headed by two
 // bytes, the number of its records.
+#![tactic(auto)]
+
 ghost use Rattle.std.specs.Prelude.{◌*◌, ◌≤◌, ◌<◌, length};
 
 use crate::print::{print_outcome, print_refusal};
@@ -12,7 +14,7 @@ use libc::STDIN_FILENO;
 mod print;
 
 // What heads the next table: the number of its records; or the input's end.
-#[derive(Drop)]
+#[derive(Clone, Copy)]
 enum Header {
     Records(u16),
     End,

@@ -30,9 +30,9 @@ fn print_number(n: u64) {
 pub fn print_refusal(check: Check) {
     match check {
         Check::Passed => {}
-        Check::Refused(ground, place) => {
+        Check::Refused(reason, place) => {
             io::write_all(STDOUT_FILENO, b"refused");
-            print_number(ground_number(ground));
+            print_number(ground_number(reason));
             io::write_all(STDOUT_FILENO, b" at");
             print_number(place as u64);
             io::write_all(STDOUT_FILENO, b"\n");

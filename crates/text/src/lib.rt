@@ -1,6 +1,8 @@
 // The text that the programs print, made in a lent buffer: numbers in base ten, lines, whole answers. It is put from
 // the buffer's end down, since a number's last digit comes out first; a function answers where the text begins. Numbers
 // that a program is given as words are read in `word`.
+#![tactic(auto)]
+
 ghost use Rattle.std.specs.Prelude.{◌≡◌, [], ◌++◌, ◌*◌, ◌≤◌, length, take};
 ghost use Rattle.call.specs.Call.{lent, left, Promises};
 ghost use Rattle.certificate.specs.Promise as certified;
@@ -27,24 +29,24 @@ mod put;
 pub mod word;
 
 // What is told to a program that reads a call's own bytes: how many they are, or where a refusal's line begins.
-#[derive(Drop)]
+#[derive(Clone, Copy)]
 pub enum Report {
     Bytes(usize),
     Line(usize),
 }
 
 // A refusal's line and, for ground 11, the line of the loop that the scratch shows.
-fn put_refused(out: &mut [u8], ground: Ground, place: usize, scratch: &[u16]) -> usize
-    requires { (131072 ≤ length out.old) × ShowsRow ground place (length scratch.now) }
-    ensures { Put (refusal_text ground place scratch.now)
+fn put_refused(out: &mut [u8], reason: Ground, place: usize, scratch: &[u16]) -> usize
+    requires { (131072 ≤ length out.old) × ShowsRow reason place (length scratch.now) }
+    ensures { Put (refusal_text reason place scratch.now)
         out.old (length out.old) out.new result }
 {
     let end = out.len();
-    if ground_number(ground) == 11 {
+    if ground_number(reason) == 11 {
         let p = put_row(out, end, scratch, place);
-        return put_refusal(out, p, ground, place);
+        return put_refusal(out, p, reason, place);
     }
-    put_refusal(out, end, ground, place)
+    put_refusal(out, end, reason, place)
 }
 
 // The certifying call's answer, on a table of n records.
@@ -66,17 +68,17 @@ fn put_certified(
             let p = put_facts(out, out.len(), certificate, n);
             put_number_line(out, p, b"rounds ", rounds)
         }
-        Certified::Refused(ground, place) => put_refused(out, ground, place, scratch),
+        Certified::Refused(reason, place) => put_refused(out, reason, place, scratch),
     }
 }
 
 // What is told of a refusal.
-fn report_refusal(line: &mut [u8], ground: Ground, place: usize) -> Report
+fn report_refusal(line: &mut [u8], reason: Ground, place: usize) -> Report
     requires { 53 ≤ length line.old }
-    ensures tells_refusal { TellsRefusal ground place line.old line.new result }
+    ensures tells_refusal { TellsRefusal reason place line.old line.new result }
     ensures within { Within result 0 (length line.old) }
 {
-    Report::Line(put_refusal(line, line.len(), ground, place))
+    Report::Line(put_refusal(line, line.len(), reason, place))
 }
 
 // What is told of the certifying call's answer where the certificate has so many bytes.
@@ -87,7 +89,7 @@ fn put_report(line: &mut [u8], answer: Certified, bytes: usize) -> Report
 {
     match answer {
         Certified::Accepted(_) => Report::Bytes(bytes),
-        Certified::Refused(ground, place) => report_refusal(line, ground, place),
+        Certified::Refused(reason, place) => report_refusal(line, reason, place),
     }
 }
 
@@ -101,7 +103,7 @@ fn put_trimmed(line: &mut [u8], answer: Trimmed) -> Report
 {
     match answer {
         Trimmed::Accepted(records) => Report::Bytes(records * 16),
-        Trimmed::Refused(ground, place) => report_refusal(line, ground, place),
+        Trimmed::Refused(reason, place) => report_refusal(line, reason, place),
     }
 }
 
@@ -114,7 +116,7 @@ fn put_benched(out: &mut [u8], answer: Benched, n: usize, values: &[u32], scratc
 {
     match answer {
         Benched::Accepted => put_values(out, out.len(), values, n),
-        Benched::Refused(ground, place) => put_refused(out, ground, place, scratch),
+        Benched::Refused(reason, place) => put_refused(out, reason, place, scratch),
     }
 }
 
@@ -127,7 +129,7 @@ fn put_path(out: &mut [u8], answer: Traced, row: &[u16], scratch: &[u16]) -> usi
 {
     match answer {
         Traced::Accepted(size) => put_row(out, out.len(), row, size),
-        Traced::Refused(ground, place) => put_refused(out, ground, place, scratch),
+        Traced::Refused(reason, place) => put_refused(out, reason, place, scratch),
     }
 }
 
@@ -143,7 +145,7 @@ fn put_billed(out: &mut [u8], answer: Billed, n: usize, shares: &[u32]) -> usize
             let p = put_values(out, out.len(), shares, n);
             put_number_line(out, p, b"bill ", cents)
         }
-        Billed::Refused(ground, place) => put_refusal(out, out.len(), ground, place),
+        Billed::Refused(reason, place) => put_refusal(out, out.len(), reason, place),
     }
 }
 

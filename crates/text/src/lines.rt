@@ -11,14 +11,14 @@ use circuit::refusal::{Ground, ground_number};
 use fact::Fact;
 use fact::cell::load;
 
-pub fn put_refusal(out: &mut [u8], at: usize, ground: Ground, place: usize) -> usize
+pub fn put_refusal(out: &mut [u8], at: usize, reason: Ground, place: usize) -> usize
     requires { (53 ≤ at) × (at ≤ length out.old) }
-    ensures { Put (refusal_line ground place) out.old at out.new result }
+    ensures { Put (refusal_line reason place) out.old at out.new result }
 {
     let end = put_byte(out, at, 10);
     let p = put_number(out, end, place as u64);
     let q = put_word(out, p, b" at ");
-    let s = put_number(out, q, ground_number(ground));
+    let s = put_number(out, q, ground_number(reason));
     put_word(out, s, b"refused ")
 }
 

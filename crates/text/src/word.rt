@@ -4,7 +4,7 @@ ghost use Rattle.net.specs.Tests.{every};
 ghost use Rattle.text.specs.Words.{is_digit, value, fitted, read_number};
 
 // A number of at most 32 bits; or the word is no number, or one that needs more.
-#[derive(Drop)]
+#[derive(Clone, Copy)]
 pub enum ReadNumber {
     Number(u32),
     NoNumber,

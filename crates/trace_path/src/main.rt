@@ -1,6 +1,8 @@
 // Shows how a secret reaches a marked variable: trace_path TABLE VARIABLE. Prints the shortest row of marked variables
 // from it to a secret input, or why the table or the variable is refused. Only reading and writing is done here; the
 // answer and its text come from the proved library `text`.
+#![tactic(auto)]
+
 ghost use Rattle.trace_path.specs.Contents.{Within};
 ghost use Rattle.std.specs.Prelude.{length};
 
@@ -9,14 +11,14 @@ use text::path_text;
 use text::word::{ReadNumber, read_number};
 
 // What was read of the table: so many bytes of it; or nothing, since it cannot be read.
-#[derive(Drop)]
+#[derive(Clone, Copy)]
 enum Contents {
     Bytes(usize),
     Unreadable,
 }
 
 // The variable; or the word is none, which was said.
-#[derive(Drop)]
+#[derive(Clone, Copy)]
 enum Variable {
     Number(u32),
     Unread,

@@ -19,9 +19,9 @@ use Rattle.trim.proofs.Grounds.{bad_at}
 
 -- ground 20, at the place of a kept number; or 21 or 22, at a place up to the number of records
 abbrev pub OfTrim : ℕ → ℕ → Ground → ℕ → Type 0
-OfTrim kept n ground place =
-    ((ground_number ground ≡ 20) × (place < kept))
-    ⊎ ((21 ≤ ground_number ground) × (ground_number ground ≤ 22) × (place ≤ n))
+OfTrim kept n reason place =
+    ((ground_number reason ≡ 20) × (place < kept))
+    ⊎ ((21 ≤ ground_number reason) × (ground_number reason ≤ 22) × (place ≤ n))
 
 kept_refusals : (n end m : ℕ) (kept : List ℕ) (i : ℕ) → i + length kept ≤ end
     → Refusals (OfTrim end m) (check_kept n kept i)

@@ -1,5 +1,7 @@
 // The trimming call on lent buffers: grounds 1, 2, 4 to 11 and 20 to 22, then a table with what its certificate calls
 // always as constants and without what no kept variable reaches, and the old numbers beside it.
+#![tactic(auto)]
+
 ghost use Rattle.std.specs.Prelude.{◌≡◌, ℕ, ◌*◌, ◌/◌, ◌≤◌, ◌<◌, length, get_or, drop, replicate};
 ghost use mathlib.Core.List.{◌++◌, flat_map};
 ghost use Rattle.circuit.specs.declared.refusal.Check.TheVariants.{Passed};
@@ -32,7 +34,7 @@ pub const ALWAYS: u8 = 1;
 const ROOM: usize = 4;
 
 // The number of records written; or the ground on which the call is turned down, with its place.
-#[derive(Drop)]
+#[derive(Clone, Copy)]
 pub enum Trimmed {
     Accepted(usize),
     Refused(Ground, usize),
@@ -97,7 +99,7 @@ fn trim_scheduled(
         powers,
     );
     match check {
-        Check::Refused(ground, place) => Trimmed::Refused(ground, place),
+        Check::Refused(reason, place) => Trimmed::Refused(reason, place),
         Check::Passed => {
             Trimmed::Accepted(trim_passed(t, n, certificate, kept, trimmed, numbers, scratch))
         }
@@ -149,7 +151,7 @@ pub fn trim(
     let powers = power_table();
     let check = check_table(table, scratch.len(), ROOM, &powers);
     match check {
-        Check::Refused(ground, place) => Trimmed::Refused(ground, place),
+        Check::Refused(reason, place) => Trimmed::Refused(reason, place),
         Check::Passed => {
             trim_checked(table, certificate, kept, trimmed, numbers, scratch, &powers)
         }

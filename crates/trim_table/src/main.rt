@@ -1,6 +1,8 @@
 // Trims a table by its certificate: trim_table [--numbers] TABLE CERTIFICATE VARIABLE... Prints the trimmed table's
 // bytes, or with --numbers the old numbers of its records, one a line; or why it is refused. Only reading and writing
 // is done here; the answer and its text come from the proved library `text`.
+#![tactic(auto)]
+
 ghost use Rattle.trim_table.specs.Contents.{Within};
 ghost use Rattle.std.specs.Prelude.{◌+◌, ◌≤◌, length};
 
@@ -9,14 +11,14 @@ use text::word::{ReadNumber, read_number};
 use text::{Report, numbers_text, trim_bytes};
 
 // What was read: so many bytes of a file, or so many variables; or nothing, since it cannot be read.
-#[derive(Drop)]
+#[derive(Clone, Copy)]
 enum Contents {
     Read(usize),
     Unreadable,
 }
 
 // A kept variable; or the word is none, which was said.
-#[derive(Drop)]
+#[derive(Clone, Copy)]
 enum Variable {
     Number(u16),
     Unread,

@@ -10,10 +10,10 @@ ground-number-requires : tie.Need-ground-number-requires
 ground-number-requires c κs = search rules
 
 mul-result : tie.Need-overflow-mul-result
-mul-result c = omega (arith, (ground_range c.before.args.ground).1)
+mul-result c = omega (arith, (ground_range c.before.args.reason).1)
 
 add-result : tie.Need-overflow-add-result
-add-result c = omega (arith, (ground_range c.before.args.ground).1)
+add-result c = omega (arith, (ground_range c.before.args.reason).1)
 
 returns : tie.Need-returns
 returns c = search rules

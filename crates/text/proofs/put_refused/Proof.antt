@@ -30,7 +30,7 @@ same_length c = search rules
 returns : tie.Need-returns
 returns c =
     let x = c.before.before.before.before.before.before.before.before.before.before.before.before.args in
-    put_as (sym (loop_text x.ground x.place x.scratch.now
+    put_as (sym (loop_text x.reason x.place x.scratch.now
     (omega (
       arith,
       c.before.before.before.before.before.before.before.before.before.ground_number_lem.ensures,
@@ -48,7 +48,7 @@ returns-2 : tie.Need-returns-2
 returns-2 c =
     let x = c.before.before.before.before.before.before.before.before.args in
     put_as
-    (sym (other_text x.ground x.place x.scratch.now
+    (sym (other_text x.reason x.place x.scratch.now
     (λ e. omega (arith, c.before.before.before.before.before.ground_number_lem.ensures))))
     c.before.before.put-refusal2.ensures
 
