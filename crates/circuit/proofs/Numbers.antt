@@ -17,7 +17,7 @@ use Rattle.circuit.specs.declared.record.InputKind.{InputKind}
 use Rattle.circuit.specs.declared.record.InputKind.TheVariants.{Fixed, Free, Secret}
 use Rattle.circuit.specs.declared.record.ReadInput.TheVariants as read-input
 use Rattle.circuit.specs.declared.record.Record.{Record}
-use Rattle.circuit.specs.declared.record.Record.TheVariants.{Input, Constant, Operator, Multiplexer, Register, Enabled}
+use Rattle.circuit.specs.declared.record.Record.TheVariants.{Input}
 use Rattle.circuit.specs.declared.record.ReadRecord.TheVariants as read-record
 use Rattle.circuit.specs.declared.stimulus.ReadStimulus.TheVariants as read-stimulus
 use Rattle.circuit.specs.Number.{u16_at, u32_at}
