@@ -5,7 +5,7 @@
 pub mod cell;
 
 ghost use Rattle.std.specs.Prelude.{◌≡◌, false, ◌≤◌, eqb};
-ghost use Rattle.circuit.specs.Operator.{result};
+ghost use Rattle.circuit.specs.Operator as operators;
 ghost use Rattle.circuit.specs.Powers.{Powers};
 ghost use Rattle.fact.specs.Fact as facts;
 ghost use Rattle.fact.specs.Rule as rules;
@@ -29,7 +29,7 @@ impl Fact {
     pub fn narrow(self, w: u8, powers: &PowerTable) -> Fact
         requires w_bound { w ≤ 32 }
         requires powers { Powers powers.now }
-        ensures* { λ r. ⌜ r ≡ facts.narrow w self ⌝ }
+        ensures { result ≡ facts.narrow w self }
     {
         match self {
             Fact::Always(n) => Fact::Always(remainder(n, w, power_in(powers, w))),
@@ -40,7 +40,7 @@ impl Fact {
 
     // The lowest fact at or above both.
     pub fn join(self, other: Fact) -> Fact
-        ensures* { λ r. ⌜ r ≡ facts.join self other ⌝ }
+        ensures { result ≡ facts.join self other }
     {
         match self {
             Fact::Always(m) => match other {
@@ -59,7 +59,7 @@ impl Fact {
 
     // The fact if it is always, else marked.
     fn always_or_marked(self) -> Fact
-        ensures* { λ r. ⌜ r ≡ rules.always_or_marked self ⌝ }
+        ensures { result ≡ rules.always_or_marked self }
     {
         match self {
             Fact::Always(n) => Fact::Always(n),
@@ -71,7 +71,7 @@ impl Fact {
 
 // An input's rule.
 pub fn input_rule(kind: InputKind) -> Fact
-    ensures* { λ r. ⌜ r ≡ rules.input_rule kind ⌝ }
+    ensures { result ≡ rules.input_rule kind }
 {
     match kind {
         InputKind::Fixed(n) => if n == 0 { Fact::Always(n) } else { Fact::Open },
@@ -84,14 +84,14 @@ pub fn input_rule(kind: InputKind) -> Fact
 fn operator_result(op: Operator, w: u8, a: u32, b: u32, powers: &PowerTable) -> u32
     requires w_bound { w ≤ 32 }
     requires powers { Powers powers.now }
-    ensures* { λ r. ⌜ r ≡ result op w a b ⌝ }
+    ensures { result ≡ operators.result op w a b }
 {
     evaluate(operator_code(op), w, a, b, power_in(powers, w))
 }
 
 // Whether a known zero decides the operator, by whether A is one and whether B is.
 fn zero_decides(op: Operator, a: bool, b: bool) -> bool
-    ensures* { λ r. ⌜ r ≡ rules.zero_decides op a b ⌝ }
+    ensures { result ≡ rules.zero_decides op a b }
 {
     match op {
         Operator::Add => false,
@@ -108,7 +108,7 @@ fn zero_decides(op: Operator, a: bool, b: bool) -> bool
 
 // The same where A is always a number, and B is not.
 fn a_decides(op: Operator, a: u32) -> bool
-    ensures* { λ r. ⌜ r ≡ rules.zero_decides op (eqb a 0) false ⌝ }
+    ensures { result ≡ rules.zero_decides op (eqb a 0) false }
 {
     if a != 0 {
         return false;
@@ -118,7 +118,7 @@ fn a_decides(op: Operator, a: u32) -> bool
 
 // The same where B is always a number, and A is not.
 fn b_decides(op: Operator, b: u32) -> bool
-    ensures* { λ r. ⌜ r ≡ rules.zero_decides op false (eqb b 0) ⌝ }
+    ensures { result ≡ rules.zero_decides op false (eqb b 0) }
 {
     if b != 0 {
         return false;
@@ -131,7 +131,7 @@ fn b_decides(op: Operator, b: u32) -> bool
 pub fn operator_rule(op: Operator, w: u8, a: Fact, b: Fact, powers: &PowerTable) -> Fact
     requires w_bound { w ≤ 32 }
     requires powers { Powers powers.now }
-    ensures* { λ r. ⌜ r ≡ rules.operator_rule op w a b ⌝ }
+    ensures { result ≡ rules.operator_rule op w a b }
 {
     match a {
         Fact::Always(x) => match b {
@@ -172,7 +172,7 @@ pub fn operator_rule(op: Operator, w: u8, a: Fact, b: Fact, powers: &PowerTable)
 pub fn multiplexer_rule(w: u8, a: Fact, b: Fact, c: Fact, powers: &PowerTable) -> Fact
     requires w_bound { w ≤ 32 }
     requires powers { Powers powers.now }
-    ensures* { λ r. ⌜ r ≡ rules.multiplexer_rule w a b c ⌝ }
+    ensures { result ≡ rules.multiplexer_rule w a b c }
 {
     let narrow_b = b.narrow(w, powers);
     let narrow_c = c.narrow(w, powers);
@@ -187,7 +187,7 @@ pub fn multiplexer_rule(w: u8, a: Fact, b: Fact, c: Fact, powers: &PowerTable) -
 pub fn register_rule(w: u8, n: u32, a: Fact, powers: &PowerTable) -> Fact
     requires w_bound { w ≤ 32 }
     requires powers { Powers powers.now }
-    ensures* { λ r. ⌜ r ≡ rules.register_rule w n a ⌝ }
+    ensures { result ≡ rules.register_rule w n a }
 {
     a.narrow(w, powers).join(Fact::Always(n))
 }
@@ -196,7 +196,7 @@ pub fn register_rule(w: u8, n: u32, a: Fact, powers: &PowerTable) -> Fact
 pub fn enabled_rule(w: u8, n: u32, a: Fact, b: Fact, powers: &PowerTable) -> Fact
     requires w_bound { w ≤ 32 }
     requires powers { Powers powers.now }
-    ensures* { λ r. ⌜ r ≡ rules.enabled_rule w n a b ⌝ }
+    ensures { result ≡ rules.enabled_rule w n a b }
 {
     let plain = register_rule(w, n, a, powers);
     match b {

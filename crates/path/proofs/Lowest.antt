@@ -1,7 +1,7 @@
 -- The computed row is the path: where there is a row of at most so many variables, the lowest of the shortest is
 -- found. So every marked variable of the least closed store has a path.
 -- Assumes nothing.
-use mathlib.Core.Path.{◌≡◌, refl, ap, ◌∙◌, subst}
+use mathlib.Core.Path.{◌≡◌, refl, ap, ◌∙◌, subst, sym}
 use mathlib.Core.Logic.{◌⊎◌, inl, inr, ⊎_elim}
 use mathlib.Core.Bool.{Bool, true, false, ◌&&◌}
 use mathlib.Core.List.{List, [], ◌∷◌}
@@ -61,10 +61,12 @@ lowest_member [] h = absurd (not-suc-le-zero h)
 lowest_member (x ∷ []) h = member_1 x []
 lowest_member (x ∷ y ∷ ys) h =
     by_le x (lowest (y ∷ ys))
-    (λ k. let e : min x (lowest (y ∷ ys)) ≡ x = omega arith in rw e (member_1 x (y ∷ ys)))
+    (λ k. let e : min x (lowest (y ∷ ys)) ≡ x = omega arith in
+    subst (λ (m : ℕ). T (member m (x ∷ y ∷ ys))) (sym e) (member_1 x (y ∷ ys)))
     (λ k.
     let e : min x (lowest (y ∷ ys)) ≡ lowest (y ∷ ys) = omega arith in
-    rw e (or_right (eqb (lowest (y ∷ ys)) x) (member (lowest (y ∷ ys)) (y ∷ ys))
+    subst (λ (m : ℕ). T (member m (x ∷ y ∷ ys))) (sym e)
+    (or_right (eqb (lowest (y ∷ ys)) x) (member (lowest (y ∷ ys)) (y ∷ ys))
     (lowest_member (y ∷ ys) (omega arith))))
 
 lowest_least : (l : List ℕ) (u : ℕ) → T (member u l) → lowest l ≤ u
