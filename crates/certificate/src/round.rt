@@ -23,6 +23,7 @@ use circuit::table::value_at;
 use fact::Fact;
 use fact::cell::{byte, load, store};
 
+#[tactic(auto, unfolding(fact::specs::Fact::same))]
 pub fn differs(f: Fact, g: Fact) -> bool
     ensures { result ≡ not (same f g) }
 {

@@ -1,6 +1,5 @@
-// Stimuli read one record after another, by a reader that holds the list's bytes and the place of the next record. Each
-// function over it takes it apart and calls the reading of one record, which is covered; `read_stimulus` takes and
-// gives what is plain, so that who calls it needs no walk by hand, and goes on from the place that the reader came to.
+// Stimuli read one record after another, by a reader that holds the list's bytes and the place of the next record.
+// `read_stimulus` takes and gives what is plain, and goes on from the place that the reader came to.
 ghost use Rattle.std.specs.Prelude.{◌≡◌, ◌+◌, ◌≤◌, length};
 ghost use Rattle.circuit.specs.Stimuli.{read_stimulus};
 ghost use Rattle.machine.specs.Reading.{moved, stimulus_in};
