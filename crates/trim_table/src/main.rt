@@ -228,5 +228,12 @@ fn main(rt: HostRuntime) {
     let Contents::Read(k) = kept_read else {
         return;
     };
-    print_trimmed(&rt, &errors, &table[..t], &certificate[..c], &kept[..k], in_numbers);
+    print_trimmed(
+        &rt,
+        &errors,
+        &table[..t],
+        &certificate[..c],
+        &kept[..k],
+        in_numbers,
+    );
 }
