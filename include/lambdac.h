@@ -1,5 +1,5 @@
 /* Certificates over lambda-C tables, the bench beside them, tables trimmed by their certificates, the path that a
- * secret takes, and the bill of an order, as a static library (rt staticlib capi writes target/staticlib/libcapi.a).
+ * secret takes, and the bill of an order, as a static library (rt lib in crates/capi writes crates/capi/out/libcapi.a).
  *
  * A call reads its table with what is given beside it, or its sizes, and writes to the buffers that it is lent; no two
  * of the buffers may overlap, and no pointer may be null, not even that of a buffer of length 0. Lengths count

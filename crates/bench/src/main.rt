@@ -4,144 +4,146 @@
 #![tactic(auto)]
 
 ghost use Rattle.bench.specs.Contents.{Within};
-ghost use Rattle.std.specs.Prelude.{◌≤◌, length};
+ghost use Rattle.std.specs.Prelude.{◌≤◌, length, IfOk};
 
-use libc::{STDERR_FILENO, STDOUT_FILENO};
+use std::env::{Env, FillError};
+use std::fs::File;
+use std::io;
+use std::io::{Error, ErrorKind, Read, Write};
+use std::rt::Files;
 use text::bench_text;
 
-// What was read of a file: so many bytes of it; or nothing, since it cannot be read.
+// What was read of a file: so many bytes of it; or nothing, since it cannot be read, which was said.
 #[derive(Clone, Copy)]
 enum Contents {
     Bytes(usize),
     Unreadable,
 }
 
-// One read of what a buffer does not hold any more: how many bytes past a multiple of 8 there were.
-#[derive(Clone, Copy)]
-enum Piece {
-    More(usize),
-    End,
-    Failed,
-}
-
-fn read_piece(fd: i32) -> Piece {
-    let mut space = io::large_buffer();
-    let got = libc::read(fd, &mut space);
-    if got < 0 {
-        return Piece::Failed;
-    }
-    if got == 0 {
-        return Piece::End;
-    }
-    Piece::More(io::count(got, &space) % 8)
+// One read of what a buffer does not hold any more: how many bytes there were, and 0 at the end.
+fn read_piece(file: &mut impl Read) -> io::Result<usize> {
+    let mut space = [0u8; 65536];
+    file.read(&mut space)
 }
 
 // Reads a file to its end: its length's remainder by 8. A proved loop has to end, and nothing says that a file does: so
-// it counts its turns down.
-fn read_rest(fd: i32) -> Contents
-    ensures { Within result 7 }
+// it counts its turns.
+fn read_rest(file: &mut impl Read) -> io::Result<usize>
+    ensures { IfOk result (λ n. n ≤ 7) }
 {
     let mut rest: usize = 0;
-    let mut turns = u64::MAX;
-    while turns > 0 {
-        let piece = read_piece(fd);
-        match piece {
-            Piece::Failed => {
-                return Contents::Unreadable;
-            }
-            Piece::End => {
-                return Contents::Bytes(rest);
-            }
-            Piece::More(bytes) => {
-                rest = (rest + bytes % 8) % 8;
-            }
+    for _ in 0..u64::MAX {
+        let bytes = read_piece(file)?;
+        if bytes == 0 {
+            return Ok(rest);
         }
-        turns -= 1;
+        rest = (rest + bytes % 8) % 8;
     }
-    Contents::Unreadable
+    Err(Error::from(ErrorKind::FileTooLarge))
 }
 
-// So many bytes, if the file has ended after them.
-fn read_end(fd: i32, got: usize) -> Contents
-    ensures { Within result got }
+// Reads until the buffer is full or the file ends. How many bytes of the buffer were read.
+fn read_full(file: &mut impl Read, buf: &mut [u8]) -> io::Result<usize>
+    ensures { IfOk result (λ n. n ≤ length buf.new) }
 {
-    let piece = read_piece(fd);
-    match piece {
-        Piece::End => Contents::Bytes(got),
-        Piece::More(_) => Contents::Unreadable,
-        Piece::Failed => Contents::Unreadable,
+    let mut done: usize = 0;
+    while done < buf.len() {
+        let got = file.read(&mut buf[done..])?;
+        if got == 0 {
+            return Ok(done);
+        }
+        done += got;
     }
+    Ok(done)
 }
 
 // Reads a file into a buffer of a multiple of 8 bytes. Of one that does not end in it only the length's remainder by 8
 // counts, and the number answered has the same.
-fn read_open(fd: i32, buf: &mut [u8]) -> Contents
+fn read_open(file: &mut impl Read, buf: &mut [u8]) -> io::Result<usize>
     requires { 8 ≤ length buf.old }
-    ensures { Within result (length buf.new) }
+    ensures { IfOk result (λ n. n ≤ length buf.new) }
 {
-    let got = io::read_full(fd, buf);
+    let got = read_full(file, buf)?;
     if got < buf.len() {
-        return read_end(fd, got);
+        return Ok(got);
     }
-    let rest = read_rest(fd);
-    match rest {
-        Contents::Unreadable => Contents::Unreadable,
-        Contents::Bytes(past) => Contents::Bytes(buf.len() - 8 + past),
-    }
+    let past = read_rest(file)?;
+    Ok(buf.len() - 8 + past)
 }
 
-// One line on standard error: what failed, and why.
-fn fail(name: &[u8]) {
-    io::write_all(STDERR_FILENO, b"bench: ");
-    os::fail(name);
+// Opens and reads the file at a path.
+fn read_path(files: &impl Files, path: &[u8], buf: &mut [u8]) -> io::Result<usize>
+    requires { 8 ≤ length buf.old }
+    ensures { IfOk result (λ n. n ≤ length buf.new) }
+{
+    let Ok(path) = str::from_utf8(path) else {
+        return Err(Error::from(ErrorKind::InvalidFilename));
+    };
+    let mut file = File::open(files, path)?;
+    read_open(&mut file, buf)
+}
+
+// One line on standard error: what failed, and why. The error's number, which is said behind its text, is left out.
+fn fail(errors: &impl Print, name: &[u8], why: Error) {
+    let mut space = [0u8; 256];
+    let mut text = &mut space[..];
+    let _ = write!(text, "{why}");
+    let said = str::from_utf8(&space).unwrap_or("");
+    let said = said.split(" (os error ").next().unwrap_or("");
+    let _ = print!(errors; "bench: ");
+    let _ = errors.write_all(name);
+    let _ = println!(errors; ": {said}");
+}
+
+// Whether there is an argument i. Argument 0 is the program's name.
+fn has_argument(rt: &impl Env, i: usize) -> bool {
+    !matches!(rt.arg(i, &mut [0u8; 0]), Err(FillError::NotPresent))
 }
 
 // Reads the file that argument i names, or says why it cannot be read.
-fn read_file(i: usize, buf: &mut [u8]) -> Contents
+fn read_file(rt: &(impl Env + Files), errors: &impl Print, i: usize, buf: &mut [u8]) -> Contents
     requires { 8 ≤ length buf.old }
     ensures { Within result (length buf.new) }
 {
-    let mut path = io::buffer();
-    let n = os::arg(i, &mut path);
-    let fd = os::open_read(&path[..n]);
-    if fd < 0 {
-        fail(&path[..n]);
-        return Contents::Unreadable;
+    let mut space = [0u8; 4096];
+    let n = rt.arg(i, &mut space).unwrap_or(0);
+    let path = &space[..n];
+    match read_path(rt, path, buf) {
+        Ok(bytes) => Contents::Bytes(bytes),
+        Err(why) => {
+            fail(errors, path, why);
+            Contents::Unreadable
+        }
     }
-    let contents = read_open(fd, buf);
-    if let Contents::Unreadable = contents {
-        fail(&path[..n]);
-    }
-    libc::close(fd);
-    contents
 }
 
 // Prints what the bench call answers.
-fn print_run(table: &[u8], stimuli: &[u8]) {
+fn print_run(output: &impl Print, errors: &impl Print, table: &[u8], stimuli: &[u8]) {
     let mut values = [0u32; 4096];
     let mut scratch = [0u16; 16384];
     let mut out = [0u8; 131072];
     let from = bench_text(table, stimuli, &mut values, &mut scratch, &mut out);
-    if !io::write_all(STDOUT_FILENO, &out[from..]) {
-        io::write_all(STDERR_FILENO, b"bench: standard output cannot be written\n");
+    if output.write_all(&out[from..]).is_err() {
+        let _ = println!(errors; "bench: standard output cannot be written");
     }
 }
 
 // The buffers have room for one record, or one stimulus, too many and 8 bytes more.
-fn main() {
-    if os::arg_count() != 3 {
-        io::write_all(STDERR_FILENO, b"usage: bench TABLE STIMULI\n");
+fn main(rt: HostRuntime) {
+    let errors = rt.stderr();
+    if !has_argument(&rt, 2) || has_argument(&rt, 3) {
+        let _ = println!(errors; "usage: bench TABLE STIMULI");
         return;
     }
     let mut table = [0u8; 65560];
-    let table_read = read_file(1, &mut table);
+    let table_read = read_file(&rt, &errors, 1, &mut table);
     let Contents::Bytes(t) = table_read else {
         return;
     };
     let mut stimuli = [0u8; 32784];
-    let stimuli_read = read_file(2, &mut stimuli);
+    let stimuli_read = read_file(&rt, &errors, 2, &mut stimuli);
     let Contents::Bytes(s) = stimuli_read else {
         return;
     };
-    print_run(&table[..t], &stimuli[..s]);
+    print_run(&rt, &errors, &table[..t], &stimuli[..s]);
 }

@@ -5,7 +5,7 @@
 ghost use Rattle.bill_order.specs.Sizes.{Within};
 ghost use Rattle.std.specs.Prelude.{◌≡◌, ◌+◌, ◌≤◌, min, length, set};
 
-use libc::{STDERR_FILENO, STDOUT_FILENO};
+use std::env::{Env, FillError};
 use text::bill_text;
 use text::word::{ReadNumber, read_number};
 
@@ -24,31 +24,33 @@ enum Sizes {
 }
 
 // One line on standard error: what is wrong with size i.
-fn complain(i: usize, what: &[u8]) {
-    io::write_all(STDERR_FILENO, b"bill: the size at place ");
-    io::print_decimal(STDERR_FILENO, i as u64);
-    io::write_all(STDERR_FILENO, what);
+fn complain(errors: &impl Print, i: usize, what: &str) {
+    let _ = println!(errors; "bill: the size at place {i} {what}");
+}
+
+// Whether there is an argument i. Argument 0 is the program's name.
+fn has_argument(rt: &impl Env, i: usize) -> bool {
+    !matches!(rt.arg(i, &mut [0u8; 0]), Err(FillError::NotPresent))
 }
 
 // The size that argument i is, or a complaint. Argument 0 is the program's name.
-fn read_size(i: usize) -> Size
+fn read_size(rt: &impl Env, errors: &impl Print, i: usize) -> Size
     requires { 1 ≤ i }
 {
-    let mut space = io::buffer();
-    let n = os::arg(i, &mut space);
-    if os::errno() != 0 {
-        complain(i - 1, b" has more than 4096 bytes\n");
+    let mut space = [0u8; 4096];
+    let Ok(n) = rt.arg(i, &mut space) else {
+        complain(errors, i - 1, "has more than 4096 bytes");
         return Size::Unread;
-    }
+    };
     let word = read_number(&space[..n]);
     match word {
         ReadNumber::Number(x) => Size::Number(x),
         ReadNumber::NoNumber => {
-            complain(i - 1, b" is no number\n");
+            complain(errors, i - 1, "is no number");
             Size::Unread
         }
         ReadNumber::TooWide => {
-            complain(i - 1, b" needs more than 32 bits\n");
+            complain(errors, i - 1, "needs more than 32 bits");
             Size::Unread
         }
     }
@@ -68,39 +70,40 @@ fn keep(sizes: &mut [u32], kept: usize, size: u32) -> usize
 }
 
 // Reads every word, and keeps as many sizes as there is room for.
-fn read_sizes(sizes: &mut [u32]) -> Sizes
+fn read_sizes(rt: &impl Env, errors: &impl Print, sizes: &mut [u32]) -> Sizes
     ensures { Within result (length sizes.new) }
 {
-    let words = os::arg_count();
     let mut kept: usize = 0;
-    let mut i: usize = 1;
-    while i < words {
-        let size = read_size(i);
+    for i in 1..usize::MAX {
+        if !has_argument(rt, i) {
+            break;
+        }
+        let size = read_size(rt, errors, i);
         let Size::Number(x) = size else {
             return Sizes::Unread;
         };
         kept = keep(sizes, kept, x);
-        i += 1;
     }
     Sizes::Kept(kept)
 }
 
 // Prints what the call answers.
-fn print_bill(sizes: &[u32]) {
+fn print_bill(output: &impl Print, errors: &impl Print, sizes: &[u32]) {
     let mut shares = [0u32; 65];
     let mut out = [0u8; 2048];
     let from = bill_text(sizes, &mut shares, &mut out);
-    if !io::write_all(STDOUT_FILENO, &out[from..]) {
-        io::write_all(STDERR_FILENO, b"bill: standard output cannot be written\n");
+    if output.write_all(&out[from..]).is_err() {
+        let _ = println!(errors; "bill: standard output cannot be written");
     }
 }
 
 // An order has at most 64 sizes, and one more shows that there are too many.
-fn main() {
+fn main(rt: HostRuntime) {
+    let errors = rt.stderr();
     let mut sizes = [0u32; 65];
-    let read = read_sizes(&mut sizes);
+    let read = read_sizes(&rt, &errors, &mut sizes);
     let Sizes::Kept(n) = read else {
         return;
     };
-    print_bill(&sizes[..n]);
+    print_bill(&rt, &errors, &sizes[..n]);
 }

@@ -2,72 +2,89 @@
 // it is refused. Only reading and writing is done here; the answer and its text come from the proved library `text`.
 #![tactic(auto)]
 
-use libc::{STDERR_FILENO, STDIN_FILENO, STDOUT_FILENO};
+ghost use Rattle.std.specs.Prelude.{◌≤◌, length, IfOk};
+
+use std::env::{Env, FillError};
+use std::io;
+use std::io::Read;
 use text::{Report, certify_bytes, certify_text};
 
-// Whether the input has ended, and not merely failed.
-fn at_end() -> bool {
-    let mut next = [0u8; 1];
-    libc::read(STDIN_FILENO, &mut next) == 0
+// Reads until the buffer is full or the input ends. How many bytes of the buffer were read.
+fn read_full(input: &mut impl Read, buf: &mut [u8]) -> io::Result<usize>
+    ensures { IfOk result (λ n. n ≤ length buf.new) }
+{
+    let mut done: usize = 0;
+    while done < buf.len() {
+        let got = input.read(&mut buf[done..])?;
+        if got == 0 {
+            return Ok(done);
+        }
+        done += got;
+    }
+    Ok(done)
+}
+
+// Whether there is an argument i. Argument 0 is the program's name.
+fn has_argument(rt: &impl Env, i: usize) -> bool {
+    !matches!(rt.arg(i, &mut [0u8; 0]), Err(FillError::NotPresent))
 }
 
 // Whether the first argument asks for the certificate's own bytes.
-fn asks_for_bytes() -> bool {
+fn asks_for_bytes(rt: &impl Env) -> bool {
     let mut word = [0u8; 8];
-    let n = os::arg(1, &mut word);
-    check::same(&word[..n], b"--bytes")
+    match rt.arg(1, &mut word) {
+        Ok(n) => word[..n] == b"--bytes"[..],
+        Err(_) => false,
+    }
 }
 
 // Prints an answer.
-fn print(answer: &[u8]) {
-    if !io::write_all(STDOUT_FILENO, answer) {
-        io::write_all(
-            STDERR_FILENO,
-            b"certify: standard output cannot be written\n",
-        );
+fn print(output: &impl Print, errors: &impl Print, answer: &[u8]) {
+    if output.write_all(answer).is_err() {
+        let _ = println!(errors; "certify: standard output cannot be written");
     }
 }
 
 // Prints what the certifying call answers.
-fn print_text(table: &[u8]) {
+fn print_text(output: &impl Print, errors: &impl Print, table: &[u8]) {
     let mut certificate = [0u8; 32768];
     let mut scratch = [0u16; 8192];
     let mut out = [0u8; 131072];
     let from = certify_text(table, &mut certificate, &mut scratch, &mut out);
-    print(&out[from..]);
+    print(output, errors, &out[from..]);
 }
 
 // Prints the certificate's own bytes; a refusal's line goes to standard error.
-fn print_bytes(table: &[u8]) {
+fn print_bytes(output: &impl Print, errors: &impl Print, table: &[u8]) {
     let mut certificate = [0u8; 32768];
     let mut scratch = [0u16; 8192];
     let mut line = [0u8; 64];
     let report = certify_bytes(table, &mut certificate, &mut scratch, &mut line);
     match report {
-        Report::Bytes(count) => print(&certificate[..count]),
+        Report::Bytes(count) => print(output, errors, &certificate[..count]),
         Report::Line(from) => {
-            io::write_all(STDERR_FILENO, &line[from..]);
+            let _ = errors.write_all(&line[from..]);
         }
     }
 }
 
 // A table has at most 65,536 bytes, and one more shows that there are too many.
-fn main() {
-    let bytes = asks_for_bytes();
+fn main(rt: HostRuntime) {
+    let errors = rt.stderr();
+    let bytes = asks_for_bytes(&rt);
     let known = if bytes { 2 } else { 1 };
-    if known < os::arg_count() {
-        io::write_all(STDERR_FILENO, b"usage: certify [--bytes] < TABLE\n");
+    if has_argument(&rt, known) {
+        let _ = println!(errors; "usage: certify [--bytes] < TABLE");
         return;
     }
     let mut table = [0u8; 65537];
-    let got = io::read_full(STDIN_FILENO, &mut table);
-    if got < 65537 && !at_end() {
-        io::write_all(STDERR_FILENO, b"certify: standard input cannot be read\n");
+    let Ok(got) = read_full(&mut rt.stdin(), &mut table) else {
+        let _ = println!(errors; "certify: standard input cannot be read");
         return;
-    }
+    };
     if bytes {
-        print_bytes(&table[..got]);
+        print_bytes(&rt, &errors, &table[..got]);
     } else {
-        print_text(&table[..got]);
+        print_text(&rt, &errors, &table[..got]);
     }
 }

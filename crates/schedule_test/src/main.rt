@@ -2,14 +2,15 @@
 // bytes, the number of its records.
 #![tactic(auto)]
 
-ghost use Rattle.std.specs.Prelude.{◌*◌, ◌≤◌, ◌<◌, length};
+ghost use Rattle.std.specs.Prelude.{◌*◌, ◌≤◌, length, IfOk};
 
 use crate::print::{print_outcome, print_refusal};
 use circuit::checks::{check_length, check_records};
 use circuit::number::{u16_at, wide};
 use circuit::operator::power_table;
 use circuit::refusal::Check;
-use libc::STDIN_FILENO;
+use std::io;
+use std::io::Read;
 
 mod print;
 
@@ -20,25 +21,38 @@ enum Header {
     End,
 }
 
+// Reads until the buffer is full or the input ends. How many bytes of the buffer were read.
+fn read_full(input: &mut impl Read, buf: &mut [u8]) -> io::Result<usize>
+    ensures { IfOk result (λ n. n ≤ length buf.new) }
+{
+    let mut done: usize = 0;
+    while done < buf.len() {
+        let got = input.read(&mut buf[done..])?;
+        if got == 0 {
+            return Ok(done);
+        }
+        done += got;
+    }
+    Ok(done)
+}
+
 // Passes over one record of the input.
-fn skip_record() {
+fn skip_record(input: &mut impl Read) {
     let mut bytes = [0u8; 16];
-    io::read_full(STDIN_FILENO, &mut bytes);
+    let _ = read_full(input, &mut bytes);
 }
 
 // Passes over n records of the input.
-fn skip_records(n: usize) {
-    let mut i = 0;
-    while i < n {
-        skip_record();
-        i += 1;
+fn skip_records(input: &mut impl Read, n: usize) {
+    for _ in 0..n {
+        skip_record(input);
     }
 }
 
-// Reads what heads the next table.
-fn read_header() -> Header {
+// Reads what heads the next table. An input that cannot be read has ended.
+fn read_header(input: &mut impl Read) -> Header {
     let mut bytes = [0u8; 2];
-    let got = io::read_full(STDIN_FILENO, &mut bytes);
+    let got = read_full(input, &mut bytes).unwrap_or(0);
     if got < 2 {
         return Header::End;
     }
@@ -46,58 +60,62 @@ fn read_header() -> Header {
 }
 
 // Fills the table's bytes from the input. Whether the input has them all.
-fn read_table(t: &mut [u8]) -> bool {
-    let got = io::read_full(STDIN_FILENO, t);
-    got == t.len()
+fn read_table(input: &mut impl Read, t: &mut [u8]) -> bool {
+    match read_full(input, t) {
+        Ok(got) => got == t.len(),
+        Err(_) => false,
+    }
 }
 
 // Checks and schedules the n records of a table, and prints its line.
-fn report(t: &[u8], n: usize)
+fn report(output: &impl Print, t: &[u8], n: usize)
     requires { (n ≤ 4096) × (n * 16 ≤ length t.now) }
 {
     let powers = power_table();
     let checked = check_records(t, n, &powers);
     let Check::Passed = checked else {
-        print_refusal(checked);
+        print_refusal(output, checked);
         return;
     };
     let mut scratch = [0u16; 8192];
     let outcome = schedule::schedule(t, n, 2 * n, &mut scratch);
-    print_outcome(outcome, &scratch);
+    print_outcome(output, outcome, &scratch);
 }
 
 // Reads the n records of a table and prints its line. Whether the input has them all.
-fn read_and_report(n: usize) -> bool
+fn read_and_report(input: &mut impl Read, output: &impl Print, n: usize) -> bool
     requires { n ≤ 4096 }
 {
-    let mut t = io::large_buffer();
-    let whole = read_table(&mut t[..n * 16]);
+    let mut t = [0u8; 65536];
+    let whole = read_table(input, &mut t[..n * 16]);
     if whole {
-        report(&t, n);
+        report(output, &t, n);
     }
     whole
 }
 
 // One turn: reads one table and prints its line. Whether there was one.
-fn turn() -> bool {
-    let header = read_header();
+fn turn(input: &mut impl Read, output: &impl Print) -> bool {
+    let header = read_header(input);
     let Header::Records(records) = header else {
         return false;
     };
     let n = wide(records);
     let checked = check_length(n * 16);
     let Check::Passed = checked else {
-        skip_records(n);
-        print_refusal(checked);
+        skip_records(input, n);
+        print_refusal(output, checked);
         return true;
     };
-    read_and_report(n)
+    read_and_report(input, output, n)
 }
 
-// A proved loop has to end, and nothing says that the input does: so it counts its turns down.
-fn main() {
-    let mut turns: u64 = 10000;
-    while turns > 0 && turn() {
-        turns -= 1;
+// A proved loop has to end, and nothing says that the input does: so it counts its turns.
+fn main(rt: HostRuntime) {
+    let mut input = rt.stdin();
+    for _ in 0..10000 {
+        if !turn(&mut input, &rt) {
+            return;
+        }
     }
 }

@@ -4,13 +4,17 @@
 #![tactic(auto)]
 
 ghost use Rattle.trace_path.specs.Contents.{Within};
-ghost use Rattle.std.specs.Prelude.{length};
+ghost use Rattle.std.specs.Prelude.{◌≤◌, length, IfOk};
 
-use libc::{STDERR_FILENO, STDOUT_FILENO};
+use std::env::{Env, FillError};
+use std::fs::File;
+use std::io;
+use std::io::{Error, ErrorKind, Read, Write};
+use std::rt::Files;
 use text::path_text;
 use text::word::{ReadNumber, read_number};
 
-// What was read of the table: so many bytes of it; or nothing, since it cannot be read.
+// What was read of the table: so many bytes of it; or nothing, since it cannot be read, which was said.
 #[derive(Clone, Copy)]
 enum Contents {
     Bytes(usize),
@@ -24,101 +28,118 @@ enum Variable {
     Unread,
 }
 
-// Whether a file has ended, and not merely failed.
-fn at_end(fd: i32) -> bool {
-    let mut next = [0u8; 1];
-    libc::read(fd, &mut next) == 0
-}
-
-// Reads a file into a buffer with room for one byte too many: one that is longer is refused alike.
-fn read_open(fd: i32, buf: &mut [u8]) -> Contents
-    ensures { Within result (length buf.new) }
+// Reads an open file into a buffer with room for one byte too many, until that is full or the file ends: one that is
+// longer is refused alike. How many bytes of the buffer were read.
+fn read_open(file: &mut impl Read, buf: &mut [u8]) -> io::Result<usize>
+    ensures { IfOk result (λ n. n ≤ length buf.new) }
 {
-    let got = io::read_full(fd, buf);
-    if got < buf.len() && !at_end(fd) {
-        return Contents::Unreadable;
+    let mut done: usize = 0;
+    while done < buf.len() {
+        let got = file.read(&mut buf[done..])?;
+        if got == 0 {
+            return Ok(done);
+        }
+        done += got;
     }
-    Contents::Bytes(got)
+    Ok(done)
 }
 
-// One line on standard error: what failed, and why.
-fn fail(name: &[u8]) {
-    io::write_all(STDERR_FILENO, b"path: ");
-    os::fail(name);
+// Opens and reads the file at a path.
+fn read_path(files: &impl Files, path: &[u8], buf: &mut [u8]) -> io::Result<usize>
+    ensures { IfOk result (λ n. n ≤ length buf.new) }
+{
+    let Ok(path) = str::from_utf8(path) else {
+        return Err(Error::from(ErrorKind::InvalidFilename));
+    };
+    let mut file = File::open(files, path)?;
+    read_open(&mut file, buf)
+}
+
+// One line on standard error: what failed, and why. The error's number, which is said behind its text, is left out.
+fn fail(errors: &impl Print, name: &[u8], why: Error) {
+    let mut space = [0u8; 256];
+    let mut text = &mut space[..];
+    let _ = write!(text, "{why}");
+    let said = str::from_utf8(&space).unwrap_or("");
+    let said = said.split(" (os error ").next().unwrap_or("");
+    let _ = print!(errors; "path: ");
+    let _ = errors.write_all(name);
+    let _ = println!(errors; ": {said}");
+}
+
+// Whether there is an argument i. Argument 0 is the program's name.
+fn has_argument(rt: &impl Env, i: usize) -> bool {
+    !matches!(rt.arg(i, &mut [0u8; 0]), Err(FillError::NotPresent))
 }
 
 // Reads the table from the file that argument 1 names, or says why it cannot be read.
-fn read_table(buf: &mut [u8]) -> Contents
+fn read_table(rt: &(impl Env + Files), errors: &impl Print, buf: &mut [u8]) -> Contents
     ensures { Within result (length buf.new) }
 {
-    let mut name = io::buffer();
-    let n = os::arg(1, &mut name);
-    let fd = os::open_read(&name[..n]);
-    if fd < 0 {
-        fail(&name[..n]);
-        return Contents::Unreadable;
+    let mut space = [0u8; 4096];
+    let n = rt.arg(1, &mut space).unwrap_or(0);
+    let path = &space[..n];
+    match read_path(rt, path, buf) {
+        Ok(bytes) => Contents::Bytes(bytes),
+        Err(why) => {
+            fail(errors, path, why);
+            Contents::Unreadable
+        }
     }
-    let contents = read_open(fd, buf);
-    if let Contents::Unreadable = contents {
-        fail(&name[..n]);
-    }
-    libc::close(fd);
-    contents
 }
 
 // One line on standard error: what is wrong with the variable.
-fn complain(what: &[u8]) {
-    io::write_all(STDERR_FILENO, b"path: the variable ");
-    io::write_all(STDERR_FILENO, what);
+fn complain(errors: &impl Print, what: &str) {
+    let _ = println!(errors; "path: the variable {what}");
 }
 
 // The variable that argument 2 is, or a complaint.
-fn read_variable() -> Variable {
-    let mut space = io::buffer();
-    let n = os::arg(2, &mut space);
-    if os::errno() != 0 {
-        complain(b"has more than 4096 bytes\n");
+fn read_variable(rt: &impl Env, errors: &impl Print) -> Variable {
+    let mut space = [0u8; 4096];
+    let Ok(n) = rt.arg(2, &mut space) else {
+        complain(errors, "has more than 4096 bytes");
         return Variable::Unread;
-    }
+    };
     let word = read_number(&space[..n]);
     match word {
         ReadNumber::Number(x) => Variable::Number(x),
         ReadNumber::NoNumber => {
-            complain(b"is no number\n");
+            complain(errors, "is no number");
             Variable::Unread
         }
         ReadNumber::TooWide => {
-            complain(b"needs more than 32 bits\n");
+            complain(errors, "needs more than 32 bits");
             Variable::Unread
         }
     }
 }
 
 // Prints what the path call answers.
-fn print_path(table: &[u8], variable: u32) {
+fn print_path(output: &impl Print, errors: &impl Print, table: &[u8], variable: u32) {
     let mut row = [0u16; 4096];
     let mut scratch = [0u16; 32768];
     let mut out = [0u8; 131072];
     let from = path_text(table, variable, &mut row, &mut scratch, &mut out);
-    if !io::write_all(STDOUT_FILENO, &out[from..]) {
-        io::write_all(STDERR_FILENO, b"path: standard output cannot be written\n");
+    if output.write_all(&out[from..]).is_err() {
+        let _ = println!(errors; "path: standard output cannot be written");
     }
 }
 
 // A table has at most 65,536 bytes, and one more shows that there are too many.
-fn main() {
-    if os::arg_count() != 3 {
-        io::write_all(STDERR_FILENO, b"usage: path TABLE VARIABLE\n");
+fn main(rt: HostRuntime) {
+    let errors = rt.stderr();
+    if !has_argument(&rt, 2) || has_argument(&rt, 3) {
+        let _ = println!(errors; "usage: path TABLE VARIABLE");
         return;
     }
     let mut table = [0u8; 65537];
-    let table_read = read_table(&mut table);
+    let table_read = read_table(&rt, &errors, &mut table);
     let Contents::Bytes(t) = table_read else {
         return;
     };
-    let variable_read = read_variable();
+    let variable_read = read_variable(&rt, &errors);
     let Variable::Number(v) = variable_read else {
         return;
     };
-    print_path(&table[..t], v);
+    print_path(&rt, &errors, &table[..t], v);
 }

@@ -4,13 +4,17 @@
 #![tactic(auto)]
 
 ghost use Rattle.trim_table.specs.Contents.{Within};
-ghost use Rattle.std.specs.Prelude.{◌+◌, ◌≤◌, length};
+ghost use Rattle.std.specs.Prelude.{◌≤◌, length, IfOk};
 
-use libc::{STDERR_FILENO, STDOUT_FILENO};
+use std::env::{Env, FillError};
+use std::fs::File;
+use std::io;
+use std::io::{Error, ErrorKind, Read, Write};
+use std::rt::Files;
 use text::word::{ReadNumber, read_number};
 use text::{Report, numbers_text, trim_bytes};
 
-// What was read: so many bytes of a file, or so many variables; or nothing, since it cannot be read.
+// What was read: so many bytes of a file, or so many variables; or nothing, since it cannot be read, which was said.
 #[derive(Clone, Copy)]
 enum Contents {
     Read(usize),
@@ -24,130 +28,155 @@ enum Variable {
     Unread,
 }
 
+// Whether there is an argument i. Argument 0 is the program's name.
+fn has_argument(rt: &impl Env, i: usize) -> bool {
+    !matches!(rt.arg(i, &mut [0u8; 0]), Err(FillError::NotPresent))
+}
+
 // Whether the first argument asks for the old numbers.
-fn asks_for_numbers() -> bool {
+fn asks_for_numbers(rt: &impl Env) -> bool {
     let mut word = [0u8; 9];
-    let n = os::arg(1, &mut word);
-    check::same(&word[..n], b"--numbers")
-}
-
-// Whether a file has ended, and not merely failed.
-fn at_end(fd: i32) -> bool {
-    let mut next = [0u8; 1];
-    libc::read(fd, &mut next) == 0
-}
-
-// Reads a file into a buffer with room for one byte too many: one that is longer is refused alike.
-fn read_open(fd: i32, buf: &mut [u8]) -> Contents
-    ensures { Within result (length buf.new) }
-{
-    let got = io::read_full(fd, buf);
-    if got < buf.len() && !at_end(fd) {
-        return Contents::Unreadable;
+    match rt.arg(1, &mut word) {
+        Ok(n) => word[..n] == b"--numbers"[..],
+        Err(_) => false,
     }
-    Contents::Read(got)
 }
 
-// One line on standard error: what failed, and why.
-fn fail(name: &[u8]) {
-    io::write_all(STDERR_FILENO, b"trim: ");
-    os::fail(name);
+// Reads an open file into a buffer with room for one byte too many, until that is full or the file ends: one that is
+// longer is refused alike. How many bytes of the buffer were read.
+fn read_open(file: &mut impl Read, buf: &mut [u8]) -> io::Result<usize>
+    ensures { IfOk result (λ n. n ≤ length buf.new) }
+{
+    let mut done: usize = 0;
+    while done < buf.len() {
+        let got = file.read(&mut buf[done..])?;
+        if got == 0 {
+            return Ok(done);
+        }
+        done += got;
+    }
+    Ok(done)
+}
+
+// Opens and reads the file at a path.
+fn read_path(files: &impl Files, path: &[u8], buf: &mut [u8]) -> io::Result<usize>
+    ensures { IfOk result (λ n. n ≤ length buf.new) }
+{
+    let Ok(path) = str::from_utf8(path) else {
+        return Err(Error::from(ErrorKind::InvalidFilename));
+    };
+    let mut file = File::open(files, path)?;
+    read_open(&mut file, buf)
+}
+
+// One line on standard error: what failed, and why. The error's number, which is said behind its text, is left out.
+fn fail(errors: &impl Print, name: &[u8], why: Error) {
+    let mut space = [0u8; 256];
+    let mut text = &mut space[..];
+    let _ = write!(text, "{why}");
+    let said = str::from_utf8(&space).unwrap_or("");
+    let said = said.split(" (os error ").next().unwrap_or("");
+    let _ = print!(errors; "trim: ");
+    let _ = errors.write_all(name);
+    let _ = println!(errors; ": {said}");
 }
 
 // Reads the file that argument i names, or says why it cannot be read.
-fn read_file(i: usize, buf: &mut [u8]) -> Contents
+fn read_file(rt: &(impl Env + Files), errors: &impl Print, i: usize, buf: &mut [u8]) -> Contents
     ensures { Within result (length buf.new) }
 {
-    let mut path = io::buffer();
-    let n = os::arg(i, &mut path);
-    let fd = os::open_read(&path[..n]);
-    if fd < 0 {
-        fail(&path[..n]);
-        return Contents::Unreadable;
+    let mut space = [0u8; 4096];
+    let n = rt.arg(i, &mut space).unwrap_or(0);
+    let path = &space[..n];
+    match read_path(rt, path, buf) {
+        Ok(bytes) => Contents::Read(bytes),
+        Err(why) => {
+            fail(errors, path, why);
+            Contents::Unreadable
+        }
     }
-    let contents = read_open(fd, buf);
-    if let Contents::Unreadable = contents {
-        fail(&path[..n]);
-    }
-    libc::close(fd);
-    contents
 }
 
 // One line on standard error: what is wrong with the variable at a place of the list.
-fn complain(place: usize, what: &[u8]) {
-    io::write_all(STDERR_FILENO, b"trim: the variable at place ");
-    io::print_decimal(STDERR_FILENO, place as u64);
-    io::write_all(STDERR_FILENO, what);
+fn complain(errors: &impl Print, place: usize, what: &str) {
+    let _ = println!(errors; "trim: the variable at place {place} {what}");
 }
 
 // The variable that argument i is, or a complaint.
-fn read_variable(i: usize, place: usize) -> Variable {
-    let mut space = io::buffer();
-    let n = os::arg(i, &mut space);
-    if os::errno() != 0 {
-        complain(place, b" has more than 4096 bytes\n");
+fn read_variable(rt: &impl Env, errors: &impl Print, i: usize, place: usize) -> Variable {
+    let mut space = [0u8; 4096];
+    let Ok(n) = rt.arg(i, &mut space) else {
+        complain(errors, place, "has more than 4096 bytes");
         return Variable::Unread;
-    }
+    };
     let word = read_number(&space[..n]);
     match word {
         ReadNumber::Number(x) => {
             if 65535 < x {
-                complain(place, b" needs more than 16 bits\n");
+                complain(errors, place, "needs more than 16 bits");
                 return Variable::Unread;
             }
             Variable::Number(x as u16)
         }
         ReadNumber::NoNumber => {
-            complain(place, b" is no number\n");
+            complain(errors, place, "is no number");
             Variable::Unread
         }
         ReadNumber::TooWide => {
-            complain(place, b" needs more than 16 bits\n");
+            complain(errors, place, "needs more than 16 bits");
             Variable::Unread
         }
     }
 }
 
 // Reads each argument from one on as a kept variable, or says why it cannot be done.
-fn read_variables(first: usize, kept: &mut [u16]) -> Contents
+fn read_variables(rt: &impl Env, errors: &impl Print, first: usize, kept: &mut [u16]) -> Contents
     ensures { Within result (length kept.new) }
 {
-    let words = os::arg_count();
-    let mut i = first;
-    while i < words {
-        let place = i - first;
+    let mut place: usize = 0;
+    for i in first..usize::MAX {
+        if !has_argument(rt, i) {
+            break;
+        }
         if kept.len() <= place {
-            io::write_all(STDERR_FILENO, b"trim: more than 65536 variables\n");
+            let _ = println!(errors; "trim: more than 65536 variables");
             return Contents::Unreadable;
         }
-        let variable = read_variable(i, place);
+        let variable = read_variable(rt, errors, i, place);
         let Variable::Number(x) = variable else {
             return Contents::Unreadable;
         };
         kept[place] = x;
-        i += 1;
+        place += 1;
     }
-    Contents::Read(i - first)
+    Contents::Read(place)
 }
 
 // Prints an answer.
-fn print(answer: &[u8]) {
-    if !io::write_all(STDOUT_FILENO, answer) {
-        io::write_all(STDERR_FILENO, b"trim: standard output cannot be written\n");
+fn print(output: &impl Print, errors: &impl Print, answer: &[u8]) {
+    if output.write_all(answer).is_err() {
+        let _ = println!(errors; "trim: standard output cannot be written");
     }
 }
 
 // Prints the first n numbers, one a line.
-fn print_numbers(numbers: &[u16], n: usize)
+fn print_numbers(output: &impl Print, errors: &impl Print, numbers: &[u16], n: usize)
     requires { (n ≤ 4096) × (n ≤ length numbers.now) }
 {
     let mut out = [0u8; 32768];
     let from = numbers_text(numbers, n, &mut out);
-    print(&out[from..]);
+    print(output, errors, &out[from..]);
 }
 
 // Prints the trimmed table's own bytes, or the old numbers of its records; a refusal's line goes to standard error.
-fn print_trimmed(table: &[u8], certificate: &[u8], kept: &[u16], in_numbers: bool) {
+fn print_trimmed(
+    output: &impl Print,
+    errors: &impl Print,
+    table: &[u8],
+    certificate: &[u8],
+    kept: &[u16],
+    in_numbers: bool,
+) {
     let mut trimmed = [0u8; 65536];
     let mut numbers = [0u16; 4096];
     let mut scratch = [0u16; 16384];
@@ -164,42 +193,47 @@ fn print_trimmed(table: &[u8], certificate: &[u8], kept: &[u16], in_numbers: boo
     match report {
         Report::Bytes(count) => {
             if in_numbers {
-                print_numbers(&numbers, count / 16);
+                print_numbers(output, errors, &numbers, count / 16);
             } else {
-                print(&trimmed[..count]);
+                print(output, errors, &trimmed[..count]);
             }
         }
         Report::Line(from) => {
-            io::write_all(STDERR_FILENO, &line[from..]);
+            let _ = errors.write_all(&line[from..]);
         }
     }
 }
 
 // A table has at most 65,536 bytes and its certificate 32,768, and one more shows that there are too many.
-fn main() {
-    let in_numbers = asks_for_numbers();
+fn main(rt: HostRuntime) {
+    let errors = rt.stderr();
+    let in_numbers = asks_for_numbers(&rt);
     let first: usize = if in_numbers { 2 } else { 1 };
-    if os::arg_count() < first + 2 {
-        io::write_all(
-            STDERR_FILENO,
-            b"usage: trim [--numbers] TABLE CERTIFICATE VARIABLE...\n",
-        );
+    if !has_argument(&rt, first + 1) {
+        let _ = println!(errors; "usage: trim [--numbers] TABLE CERTIFICATE VARIABLE...");
         return;
     }
     let mut table = [0u8; 65537];
-    let table_read = read_file(first, &mut table);
+    let table_read = read_file(&rt, &errors, first, &mut table);
     let Contents::Read(t) = table_read else {
         return;
     };
     let mut certificate = [0u8; 32769];
-    let certificate_read = read_file(first + 1, &mut certificate);
+    let certificate_read = read_file(&rt, &errors, first + 1, &mut certificate);
     let Contents::Read(c) = certificate_read else {
         return;
     };
     let mut kept = [0u16; 65536];
-    let kept_read = read_variables(first + 2, &mut kept);
+    let kept_read = read_variables(&rt, &errors, first + 2, &mut kept);
     let Contents::Read(k) = kept_read else {
         return;
     };
-    print_trimmed(&table[..t], &certificate[..c], &kept[..k], in_numbers);
+    print_trimmed(
+        &rt,
+        &errors,
+        &table[..t],
+        &certificate[..c],
+        &kept[..k],
+        in_numbers,
+    );
 }

@@ -1,5 +1,5 @@
 //! The program bench, run on files: all that it prints, byte for byte. The program is the one that the
-//! environment's `BENCH` names, or else the one that `rt check` builds.
+//! environment's `BENCH` names, or else the one that `rt run` builds.
 
 #[path = "../../tests/common/mod.rs"]
 mod common;

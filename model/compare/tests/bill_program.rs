@@ -1,5 +1,5 @@
 //! The program bill_order, run on words: all that it prints, byte for byte. The program is the one that the
-//! environment's `BILL_ORDER` names, or else the one that `rt check` builds.
+//! environment's `BILL_ORDER` names, or else the one that `rt run` builds.
 
 #[path = "../../tests/common/mod.rs"]
 mod common;

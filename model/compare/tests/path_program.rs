@@ -1,5 +1,5 @@
 //! The program trace_path, run on a file and a word: all that it prints, byte for byte. The program is the one that
-//! the environment's `TRACE_PATH` names, or else the one that `rt check` builds.
+//! the environment's `TRACE_PATH` names, or else the one that `rt run` builds.
 
 #[path = "../../tests/common/mod.rs"]
 mod common;

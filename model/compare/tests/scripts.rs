@@ -185,11 +185,12 @@ fn neither_could_be_said() {
 /// Copies the commands to `$folder`, where each of their programs is a script that says a refusal and then ends by
 /// `$end`.
 const COPY: &str = r#"
-    rm -rf "$folder" && mkdir -p "$folder/crates" "$folder/target/bin" && cp -r bin "$folder" || exit
+    rm -rf "$folder" && mkdir "$folder" && cp -r bin "$folder" || exit
     cd "$folder" && touch crates.txt || exit
     for program in certify bench bill_order trim_table trace_path; do
-        printf '#!/bin/sh\necho refused 5 at 0 >&2\n%s\n' "$end" > target/bin/$program
-        chmod +x target/bin/$program
+        mkdir -p crates/$program/out || exit
+        printf '#!/bin/sh\necho refused 5 at 0 >&2\n%s\n' "$end" > crates/$program/out/$program
+        chmod +x crates/$program/out/$program
     done
     set -o pipefail
 "#;

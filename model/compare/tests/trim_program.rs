@@ -1,6 +1,6 @@
 //! The program trim_table, run on files and words in both of its forms: all that it prints, byte for byte, on
 //! standard output and on standard error. The program is the one that the environment's `TRIM_TABLE` names, or
-//! else the one that `rt check` builds.
+//! else the one that `rt run` builds.
 
 #[path = "../../tests/common/mod.rs"]
 mod common;

@@ -95,9 +95,10 @@ fn text(bytes: Vec<u8>) -> String {
 }
 
 /// The named program: the one that the environment has under this name in capitals, or else the one that
-/// `rt check` builds.
+/// `rt run` builds.
 fn program(name: &str) -> PathBuf {
-    let built = || PathBuf::from(concat!(env!("CARGO_MANIFEST_DIR"), "/../../target/bin")).join(name);
+    let crates = concat!(env!("CARGO_MANIFEST_DIR"), "/../../crates");
+    let built = || [crates, name, "out", name].iter().collect::<PathBuf>();
     std::env::var_os(name.to_uppercase()).map_or_else(built, PathBuf::from)
 }
 
@@ -109,7 +110,7 @@ pub fn run(name: &str, arguments: &[PathBuf], input: &[u8], piece: usize) -> Pri
     command.args(arguments).stdin(Stdio::piped()).stdout(Stdio::piped()).stderr(Stdio::piped());
     let mut child = command
         .spawn()
-        .unwrap_or_else(|error| panic!("{}: {error}; build it first: rt check {name}", program.display()));
+        .unwrap_or_else(|error| panic!("{}: {error}; build it first: rt run in crates/{name}", program.display()));
     let pipe = child.stdin.take().expect("standard input is piped");
     let printed = thread::scope(|scope| {
         scope.spawn(|| write_pieces(pipe, input, piece));

@@ -1,0 +1,26 @@
+-- A turn puts one line more.
+-- Assumes nothing.
+use Rattle.std.proofs.Common.{◌-◌, ap, arith}
+use Rattle.fact.specs.declared.Fact.{Fact}
+use Rattle.text.specs.Text.{fact_line}
+use Rattle.text.proofs.Pieces.{put_as}
+use Rattle.text.proofs.Rows.{no_pieces, one_more}
+use Rattle.text.proofs.lines.put_facts.Invariants.{line}
+use Rattle.text.proofs.lines.put_facts.Goals as goal
+
+pub loop-v-init : goal.loop-v-init
+loop-v-init c = record {
+  most = omega arith;
+  put = no_pieces (line c.args.certificate.now) c.args.n c.args.out.now c.args.at;
+  room = omega arith;
+}
+
+pub loop-v-preserved : goal.loop-v-preserved
+loop-v-preserved c = record {
+  most = omega arith;
+  put =
+      one_more (line c.args.certificate.now) c.args.n c.loop-v.v (omega arith) c.loop-v.invariant.most
+      c.loop-v.invariant.put
+      (put_as (ap (λ (f : Fact). fact_line (c.loop-v.v - 1) f) c.load.ensures) c.put_fact_line-p.ensures.put);
+  room = omega (arith, c.put_fact_line-p.ensures.at_bound);
+}
