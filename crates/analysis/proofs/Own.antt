@@ -3,7 +3,7 @@
 use mathlib.Core.Path.{◌≡◌, refl, sym, ap, ◌∙◌}
 use mathlib.Core.Bool.{Bool, true, false, not}
 use mathlib.Core.List.{List}
-use Prim.Native.Nat.{ℕ, zero, suc, ◌+◌, ◌*◌, ◌/◌, ◌%◌, ◌<◌}
+use Prim.Native.Nat.{ℕ, zero, suc, ◌+◌, ◌-◌, ◌*◌, ◌/◌, ◌%◌, ◌<◌}
 use native.Mathlib.Nat.{add-zero, div-div-eq-div-mul}
 use native.Mathlib.Omega.{arith}
 use borrow.Author.Tests.{eq-eqb, eqb-true, not-true, not-false}
@@ -13,6 +13,7 @@ use Rattle.net.proofs.Bools.{T_of, of_T, not_both, all_at, all_of, fails_below}
 use Rattle.buffer.specs.Store.{Stands}
 use Rattle.circuit.specs.declared.refusal.Ground.{Ground}
 use Rattle.circuit.specs.declared.refusal.Ground.TheVariants.{ForeignCertificate}
+use Rattle.circuit.specs.declared.refusal.Check.{Check}
 use Rattle.circuit.specs.declared.refusal.Check.TheVariants.{Passed}
 use Rattle.circuit.specs.Refusal.{refuse_first}
 use Rattle.circuit.specs.Circuit.{Circuit, circuit}
@@ -98,6 +99,14 @@ module _ {n : ℕ} {f : ℕ → Fact} {s : List ℕ} (stands : Stands words 0 n 
       (fact_words (f v))
 
 -- ---- ground 24
+
+-- the 8 bytes of variable v are not those of its three numbers in the scratch
+abbrev pub differs : List ℕ → List ℕ → ℕ → Bool
+differs cells s v = not (same_bytes cells (v * 8) (word_bytes_at s v))
+
+-- what the variables from number i on meet
+abbrev pub own_from : ℕ → List ℕ → List ℕ → ℕ → Check
+own_from n cells s i = refuse_first ForeignCertificate (differs cells s) (n - i) i
 
 -- what the code finds beside the facts in the scratch, where they are the certificate's, is ground 24
 pub own_found : (t : List ℕ) (n : ℕ) (cells s : List ℕ) → Stands words 0 n (certificate (circuit t n)) s

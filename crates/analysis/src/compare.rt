@@ -9,6 +9,7 @@ use circuit::number::wide16;
 use circuit::refusal::{Check, Ground};
 
 // Whether the 8 bytes from a place on are those of a fact with these three numbers.
+#[tactic(auto, unfolding(crate::specs::Own::same_bytes, net::specs::Tests::all_below))]
 fn same_bytes(cells: &[u8], at: usize, byte: u16, low: u16, high: u16) -> bool
     requires { at + 8 ≤ length cells.now }
     ensures { result ≡ same_bytes cells.now at (word_bytes byte low high) }

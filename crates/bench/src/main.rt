@@ -88,7 +88,7 @@ fn fail(errors: &impl Print, name: &[u8], why: Error) {
     let mut space = [0u8; 256];
     let mut text = &mut space[..];
     let _ = write!(text, "{why}");
-    let said = str::from_utf8(&space).unwrap_or("");
+    let said = str::from_utf8(&space).unwrap_or("").trim_end_matches('\0');
     let said = said.split(" (os error ").next().unwrap_or("");
     let _ = print!(errors; "bench: ");
     let _ = errors.write_all(name);
