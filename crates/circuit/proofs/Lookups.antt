@@ -3,7 +3,7 @@
 use Rattle.std.proofs.Common.{◌≡◌, ℕ, zero, suc, ◌<◌, ◌≤◌, List, [], ◌∷◌, map, length, get_or, sym, refl, ap, ◌∙◌, zero-le, arith}
 use lib.ListN.{get_or-map}
 use Rattle.net.specs.Net.{list_below}
-use Rattle.net.proofs.Lists.{get_d_list_below}
+use Rattle.net.proofs.Lists.{get_or_list_below}
 use Rattle.circuit.specs.declared.operator.Operator.{Operator}
 use Rattle.circuit.specs.declared.operator.Operator.TheVariants.{ShiftRight}
 use Rattle.circuit.specs.declared.operator.ReadOperator.TheVariants as read-operator
@@ -35,7 +35,7 @@ pub in_order : {A : Type 0} (number : A → ℕ) (l : List A) (i : ℕ) (d : A)
 in_order number l i d e h =
     sym (get_or-map number l i d)
     ∙ ap (λ (ns : List ℕ). get_or ns i (number d)) e
-    ∙ get_d_list_below (λ k. k) (length l) i (number d) h
+    ∙ get_or_list_below (λ k. k) (length l) i (number d) h
 
 -- ---- operators
 

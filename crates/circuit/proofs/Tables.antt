@@ -8,7 +8,7 @@ use Rattle.net.specs.Tests.{all_below, every, member}
 use Rattle.net.specs.Net.{wire}
 use Rattle.net.specs.Loop.{Uses}
 use Rattle.net.proofs.Bools.{T_of, of_T, and_left, and_right, or_cases, all_at, every_at}
-use Rattle.net.proofs.Lists.{length_list_below, get_d_list_below}
+use Rattle.net.proofs.Lists.{length_list_below, get_or_list_below}
 use Rattle.net.proofs.Loops.{ranked_or_loop, ranked_no_loop}
 use Rattle.net.proofs.Settle.{Ranked}
 use Rattle.circuit.specs.declared.refusal.Check.TheVariants as check
@@ -70,7 +70,7 @@ circuit_length t n = length_list_below _ n
 
 pub circuit_record : (t : List ℕ) (n i : ℕ) → i < n → record_of (circuit t n) i ≡ decode (fields_at t (i * 16))
 unfolding circuit
-circuit_record t n i h = get_d_list_below _ n i _ h
+circuit_record t n i h = get_or_list_below _ n i _ h
 
 module _ (t : List ℕ) (n : ℕ) (e : check_records t n ≡ check.Passed) (v : ℕ) (h : v < n) where
   -- the numbers of a record that passed are its fields

@@ -6,7 +6,7 @@ use mathlib.Core.List.{List}
 use Prim.Native.Nat.{ℕ, ◌+◌, ◌*◌, ◌/◌, ◌<◌}
 use lib.ListN.{length, drop, get_or}
 use Rattle.net.specs.Net.{list_below, after, stopped}
-use Rattle.net.proofs.Lists.{length_list_below, get_d_list_below}
+use Rattle.net.proofs.Lists.{length_list_below, get_or_list_below}
 use Rattle.net.proofs.Rounds.{counts_unique}
 use Rattle.circuit.specs.Circuit.{Circuit, circuit, graph}
 use Rattle.circuit.proofs.Tables.{Inside, circuit_inside}
@@ -49,7 +49,7 @@ module _ {t cells scratch cells' scratch' : List ℕ} {k : ℕ}
       ap (λ (o : List (List ℕ)). get_or (output_of o) (v * 8 + m) 0) p.accepts.certificate
       ∙ part_at fact_bytes 8 (λ f. refl) (list_below store n) (drop (n * 8) cells) v m Open
       (rw (length_list_below store n) below) h
-      ∙ ap (λ (f : Fact). get_or (fact_bytes f) m 0) (get_d_list_below store n v Open below ∙ ap after_rounds counted)
+      ∙ ap (λ (f : Fact). get_or (fact_bytes f) m 0) (get_or_list_below store n v Open below ∙ ap after_rounds counted)
     where
       after_rounds : ℕ → Fact
       after_rounds j = after (graph c) (rule c) j (initial_store c) v

@@ -6,7 +6,7 @@ use mathlib.Core.List.{List, [], ◌∷◌, ◌++◌, flat_map}
 use Prim.Native.Nat.{ℕ, ◌*◌, ◌≤◌, ◌<◌}
 use lib.ListN.{length, drop, get_or}
 use Rattle.net.specs.Net.{list_below, after, Counts}
-use Rattle.net.proofs.Lists.{get_d_list_below}
+use Rattle.net.proofs.Lists.{get_or_list_below}
 use Rattle.circuit.specs.declared.refusal.Check.TheVariants.{Passed}
 use Rattle.circuit.specs.Circuit.{Circuit, graph, NoLoop}
 use Rattle.circuit.proofs.Tables.{Inside, circuit_length, circuit_inside}
@@ -50,6 +50,6 @@ certified_computed l cells k passed none count facts bytes =
     same : (v : ℕ) → v < length c → fact_at cells v ≡ definition.certificate c v
     same v below =
         let variable : v < size l = rw (circuit_length l.table (size l)) at below in
-        sym (get_d_list_below (fact_at cells) (size l) v Open variable)
+        sym (get_or_list_below (fact_at cells) (size l) v Open variable)
         ∙ ap (λ (fs : List Fact). get_or fs v Open) facts
-        ∙ get_d_list_below (definition.certificate c) (size l) v Open variable
+        ∙ get_or_list_below (definition.certificate c) (size l) v Open variable

@@ -13,7 +13,7 @@ use lib.ListN.{length, take, get_or, get_or-eq_default}
 use Rattle.net.specs.declared.Stimulus.{Stimulus}
 use Rattle.net.specs.declared.Stimulus.TheVariants.{Poke, Tick}
 use Rattle.net.proofs.Cases.{by_le}
-use Rattle.net.proofs.Lists.{length_list_below, get_d_list_below}
+use Rattle.net.proofs.Lists.{length_list_below, get_or_list_below}
 use Rattle.circuit.specs.declared.record.Record.{Record}
 use Rattle.circuit.specs.declared.refusal.Check.TheVariants.{Passed}
 use Rattle.circuit.specs.declared.stimulus.ReadStimulus.TheVariants.{Read}
@@ -55,9 +55,9 @@ module _ (new : ℕ → ℕ) (s : List ℕ) where
   unfolding renumbered
   renumbered_length = length_list_below (λ m. get_or (renumbered_at new s (m / 8 * 8)) (m % 8) 0) (length s)
 
-  renumbered_get_d : (m : ℕ) → m < length s → get_or s' m 0 ≡ get_or (renumbered_at new s (m / 8 * 8)) (m % 8) 0
+  renumbered_get_or : (m : ℕ) → m < length s → get_or s' m 0 ≡ get_or (renumbered_at new s (m / 8 * 8)) (m % 8) 0
   unfolding renumbered
-  renumbered_get_d m h = get_d_list_below (λ m. get_or (renumbered_at new s (m / 8 * 8)) (m % 8) 0) (length s) m 0 h
+  renumbered_get_or m h = get_or_list_below (λ m. get_or (renumbered_at new s (m / 8 * 8)) (m % 8) 0) (length s) m 0 h
 
   module _ (i : ℕ) (h : i < length s / 8) where
     -- byte m of stimulus i, at a place that is given by an equation
@@ -66,7 +66,7 @@ module _ (new : ℕ → ℕ) (s : List ℕ) where
     renumbered_byte m place l e =
         let start : place / 8 * 8 ≡ i * 8 = omega arith in
         let byte : place % 8 ≡ m = omega arith in
-        renumbered_get_d place (omega arith)
+        renumbered_get_or place (omega arith)
         ∙ ap (λ (at : ℕ). get_or (renumbered_at new s at) (place % 8) 0) start
         ∙ ap (λ (k : ℕ). get_or (renumbered_at new s (i * 8)) k 0) byte
 
@@ -118,7 +118,7 @@ module _ (new : ℕ → ℕ) (s : List ℕ) where
     -- every number of the renumbered list is a byte
     pub renumbered_bytes : AllBytes s'
     renumbered_bytes m h =
-        rw (renumbered_get_d m (rw renumbered_length at h)) (stimulus_bytes (m / 8 * 8) (m % 8))
+        rw (renumbered_get_or m (rw renumbered_length at h)) (stimulus_bytes (m / 8 * 8) (m % 8))
 
 -- ---- the list
 

@@ -7,7 +7,7 @@ use mathlib.Core.List.{List}
 use Prim.Native.Nat.{ℕ, ◌*◌, ◌/◌, ◌≤◌, ◌<◌}
 use native.Mathlib.Omega.{arith}
 use lib.ListN.{length, take, get_or}
-use Rattle.net.proofs.Loops.{member_get_d}
+use Rattle.net.proofs.Loops.{member_get_or}
 use Rattle.circuit.specs.declared.refusal.Check.TheVariants.{Passed}
 use Rattle.circuit.specs.Circuit.{Circuit, circuit}
 use Rattle.circuit.specs.Machine.{machine}
@@ -81,7 +81,7 @@ module _ {t cells scratch cells' scratch' : List ℕ} {rounds : ℕ}
         circuit_length t n,
         replaced_length c (certificate c),
       ) in
-      let survives = kept_survive c₁ kept v below (member_get_d kept i h) in
+      let survives = kept_survive c₁ kept v below (member_get_or kept i h) in
       let new : new_number c₁ kept v < k =
       omega (arith, size, trimmed_length c₁ kept, new_below c₁ kept v below survives) in
       (new_number c₁ kept v, new, olds _ new ∙ old_new c₁ kept v below survives)

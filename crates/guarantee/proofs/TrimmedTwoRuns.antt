@@ -7,7 +7,7 @@ use mathlib.Core.List.{List}
 use Prim.Native.Nat.{ℕ, ◌+◌, ◌*◌, ◌/◌, ◌%◌, ◌<◌}
 use native.Mathlib.Omega.{arith}
 use lib.ListN.{length, take, get_or}
-use Rattle.net.proofs.Lists.{get_d_list_below}
+use Rattle.net.proofs.Lists.{get_or_list_below}
 use Rattle.circuit.specs.Circuit.{Circuit, circuit}
 use Rattle.circuit.proofs.Tables.{Inside, circuit_length, circuit_inside}
 use Rattle.fact.specs.Fact.{fact_at}
@@ -38,7 +38,7 @@ unfolding survivor_lines
 line_byte numbers k cells j m below h =
     let line : (j * 8 + m) / 8 ≡ j = omega arith in
     let byte : (j * 8 + m) % 8 ≡ m = omega arith in
-    get_d_list_below (λ i. get_or cells (get_or numbers (i / 8) 0 * 8 + i % 8) 0) (k * 8) (j * 8 + m) 0 (omega arith)
+    get_or_list_below (λ i. get_or cells (get_or numbers (i / 8) 0 * 8 + i % 8) 0) (k * 8) (j * 8 + m) 0 (omega arith)
     ∙ ap (λ (i : ℕ). get_or cells (get_or numbers i 0 * 8 + (j * 8 + m) % 8) 0) line
     ∙ ap (λ (i : ℕ). get_or cells (get_or numbers j 0 * 8 + i) 0) byte
 

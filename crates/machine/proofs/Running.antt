@@ -10,7 +10,7 @@ use lib.Seq.{take-length}
 use Rattle.net.specs.declared.Stimulus.{Stimulus}
 use Rattle.net.specs.declared.Stimulus.TheVariants.{Tick}
 use Rattle.net.specs.Machine.{act, run}
-use Rattle.net.proofs.Lists.{length_list_below, get_d_list_below}
+use Rattle.net.proofs.Lists.{length_list_below, get_or_list_below}
 use Rattle.net.proofs.Machine.{run_take}
 use Rattle.buffer.specs.Kept.{KeptOutside}
 use Rattle.buffer.specs.Store.{numbers, Moves}
@@ -37,7 +37,7 @@ run_next t n s i x h =
     rw (add-one i)
     (ap (λ (y : Stimulus). act (graph (circuit t n)) (values (circuit t n)) y
     (run (graph (circuit t n)) (values (circuit t n)) (take i (stimuli s)) x))
-    (sym (get_d_list_below (λ k. stimulus_at s (k * 8)) (length s / 8) i Tick h))
+    (sym (get_or_list_below (λ k. stimulus_at s (k * 8)) (length s / 8) i Tick h))
     ∙ sym (run_take (graph (circuit t n)) (values (circuit t n)) (stimuli s) i Tick x
     (omega (arith, stimuli_length s))))
 

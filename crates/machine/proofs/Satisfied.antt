@@ -7,7 +7,7 @@ use Prim.Native.Nat.{ℕ, ◌<◌}
 use native.Mathlib.Omega.{arith}
 use lib.ListN.{length, get_or, get_or-append}
 use Rattle.net.specs.Net.{wire, list_below}
-use Rattle.net.proofs.Lists.{length_list_below, get_d_list_below}
+use Rattle.net.proofs.Lists.{length_list_below, get_or_list_below}
 use Rattle.circuit.specs.Record.{role}
 use Rattle.circuit.specs.Circuit.{Circuit, record_of}
 use Rattle.circuit.specs.Machine.{values, machine}
@@ -32,7 +32,7 @@ module _ (s : List ℕ) (l : Lent) (e : Left) (ran : Benches s l e Accepted) whe
       ap (λ (o : List (List ℕ)). get_or (output_of o) v 0) ran.accepts.values
       ∙ get_or-append (list_below (machine c (stimuli s)) (size l)) _ 0 v
       (omega (arith, length_list_below (machine c (stimuli s)) (size l)))
-      ∙ get_d_list_below (machine c (stimuli s)) (size l) v 0 below
+      ∙ get_or_list_below (machine c (stimuli s)) (size l) v 0 below
 
   inside : Inside c
   inside = circuit_inside l.table (size l) (table_checked (benching s) l ran.past.passed).valid

@@ -12,8 +12,8 @@ module _ {A : Type 0} where
   length_list_below s zero = refl
   length_list_below s (suc n) = ap suc (length_list_below (λ v. s (suc v)) n)
 
-  pub get_d_list_below : (s : ℕ → A) (n i : ℕ) (d : A) → i < n → get_or (list_below s n) i d ≡ s i
+  pub get_or_list_below : (s : ℕ → A) (n i : ℕ) (d : A) → i < n → get_or (list_below s n) i d ≡ s i
   unfolding list_below
-  get_d_list_below s zero i d h = absurd (not-suc-le-zero h)
-  get_d_list_below s (suc n) zero d h = refl
-  get_d_list_below s (suc n) (suc i) d h = get_d_list_below (λ v. s (suc v)) n i d (le_of_suc-le-suc h)
+  get_or_list_below s zero i d h = absurd (not-suc-le-zero h)
+  get_or_list_below s (suc n) zero d h = refl
+  get_or_list_below s (suc n) (suc i) d h = get_or_list_below (λ v. s (suc v)) n i d (le_of_suc-le-suc h)

@@ -52,26 +52,26 @@ distinct [] = true
 distinct (x ∷ xs) = not (member x xs) && distinct xs
 
 -- what stands at a place of a list stands in it
-pub member_get_d : (l : List ℕ) (i : ℕ) → i < length l → T (member (get_or l i 0) l)
+pub member_get_or : (l : List ℕ) (i : ℕ) → i < length l → T (member (get_or l i 0) l)
 unfolding member
-member_get_d [] i h = absurd (not-suc-le-zero h)
-member_get_d (x ∷ xs) zero h = or_left (eqb x x) (member x xs) (eqb_refl x)
-member_get_d (x ∷ xs) (suc i) h =
-    or_right (eqb (get_or xs i 0) x) (member (get_or xs i 0) xs) (member_get_d xs i (le_of_suc-le-suc h))
+member_get_or [] i h = absurd (not-suc-le-zero h)
+member_get_or (x ∷ xs) zero h = or_left (eqb x x) (member x xs) (eqb_refl x)
+member_get_or (x ∷ xs) (suc i) h =
+    or_right (eqb (get_or xs i 0) x) (member (get_or xs i 0) xs) (member_get_or xs i (le_of_suc-le-suc h))
 
-distinct_get_d : (l : List ℕ) → T (distinct l) → (i j : ℕ) → i < length l → j < length l → get_or l i 0 ≡ get_or l j 0
+distinct_get_or : (l : List ℕ) → T (distinct l) → (i j : ℕ) → i < length l → j < length l → get_or l i 0 ≡ get_or l j 0
     → i ≡ j
 unfolding distinct
-distinct_get_d [] d i j h k e = absurd (not-suc-le-zero h)
-distinct_get_d (x ∷ xs) d zero zero h k e = refl
-distinct_get_d (x ∷ xs) d zero (suc j) h k e =
-    not_both (member x xs) (rw e (member_get_d xs j (le_of_suc-le-suc k)))
+distinct_get_or [] d i j h k e = absurd (not-suc-le-zero h)
+distinct_get_or (x ∷ xs) d zero zero h k e = refl
+distinct_get_or (x ∷ xs) d zero (suc j) h k e =
+    not_both (member x xs) (rw e (member_get_or xs j (le_of_suc-le-suc k)))
     (and_left (not (member x xs)) (distinct xs) d)
-distinct_get_d (x ∷ xs) d (suc i) zero h k e =
-    not_both (member x xs) (rw (← e) (member_get_d xs i (le_of_suc-le-suc h)))
+distinct_get_or (x ∷ xs) d (suc i) zero h k e =
+    not_both (member x xs) (rw (← e) (member_get_or xs i (le_of_suc-le-suc h)))
     (and_left (not (member x xs)) (distinct xs) d)
-distinct_get_d (x ∷ xs) d (suc i) (suc j) h k e =
-    ap suc (distinct_get_d xs (and_right (not (member x xs)) (distinct xs) d) i j (le_of_suc-le-suc h)
+distinct_get_or (x ∷ xs) d (suc i) (suc j) h k e =
+    ap suc (distinct_get_or xs (and_right (not (member x xs)) (distinct xs) d) i j (le_of_suc-le-suc h)
     (le_of_suc-le-suc k) e)
 
 -- what stands in a list stands at a place of it
@@ -326,7 +326,7 @@ module _ (g : Graph) (inside : (v u : ℕ) → v < g.size → Uses g v u → u <
       record {
         some = omega arith;
         wires = path_wires x x l p;
-        distinct = distinct_get_d (x ∷ l) d;
+        distinct = distinct_get_or (x ∷ l) d;
         next = λ i h. rw (add-one i) (path_next x x l p i (omega arith));
         back = rw (sub-one (suc (length l))) (path_last x x l p);
       }

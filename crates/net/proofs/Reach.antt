@@ -19,7 +19,7 @@ use Rattle.net.proofs.Cases.{by_le}
 use Rattle.net.proofs.Bools.{T_of, true_false, not_both, and_left, and_right, and_both}
 use Rattle.net.proofs.Bools.{or_cases, or_left, or_right, all_at, passes_below, any_of}
 use Rattle.net.proofs.Sums.{sum_mono, sum_strict, sum_one}
-use Rattle.net.proofs.Lists.{length_list_below, get_d_list_below}
+use Rattle.net.proofs.Lists.{length_list_below, get_or_list_below}
 
 -- ---- a set that is given by a test
 
@@ -31,10 +31,10 @@ module _ (p : ℕ → Bool) (n v : ℕ) where
       (λ k. k)
 
   in_passes : T (is_in (list_below p n) v) → T (p v)
-  in_passes t = rw (get_d_list_below p n v false (in_below t)) at t
+  in_passes t = rw (get_or_list_below p n v false (in_below t)) at t
 
   in_of : v < n → T (p v) → T (is_in (list_below p n) v)
-  in_of h t = rw (get_d_list_below p n v false h) t
+  in_of h t = rw (get_or_list_below p n v false h) t
 
 -- ---- counting by tests
 

@@ -10,7 +10,7 @@ use lib.ListN.{length, get_or}
 use Rattle.net.specs.Net.{wire, register}
 use Rattle.net.specs.Loop.{Uses}
 use Rattle.net.proofs.Bools.{true_false}
-use Rattle.net.proofs.Loops.{member_get_d, member_place}
+use Rattle.net.proofs.Loops.{member_get_or, member_place}
 use Rattle.net.proofs.Settle.{by_role}
 use Rattle.circuit.specs.declared.record.Record.{Record}
 use Rattle.circuit.specs.Record.{role, uses, wire_uses, is_register}
@@ -74,7 +74,7 @@ module _ (c : Circuit) (v : ℕ) where
 
   pub used_uses : (k : ℕ) → k + 1 < last c v → Uses (graph c) v (used c v k)
   unfolding last used
-  used_uses k h = member_get_d (uses (record_of c v)) k (wire_use (record_of c v) k h)
+  used_uses k h = member_get_or (uses (record_of c v)) k (wire_use (record_of c v) k h)
 
   pub uses_used : (u : ℕ) → role (record_of c v) ≡ wire → Uses (graph c) v u
       → (k : ℕ) × (k + 1 < last c v) × (used c v k ≡ u)

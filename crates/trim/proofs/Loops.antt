@@ -17,7 +17,7 @@ use Rattle.circuit.proofs.Tables.{Inside, circuit_ranked}
 use Rattle.fact.specs.declared.Fact.{Fact}
 use Rattle.trim.specs.Trimmed.{replaced, survivors, new_number, trimmed}
 use Rattle.trim.proofs.Replaced.{used_stays, replaced_length, replaced_record, replaced_inside}
-use Rattle.trim.proofs.Renumbered.{get_d_map, renumber_role}
+use Rattle.trim.proofs.Renumbered.{get_or_map, renumber_role}
 use Rattle.trim.proofs.Survivors.{old_number, old_survives, old_injective}
 use Rattle.trim.proofs.Survivors.{trimmed_length, trimmed_record, trimmed_uses, trimmed_inside}
 
@@ -61,7 +61,7 @@ module _ (c : Circuit) (s : ℕ → Fact) (kept : List ℕ) (inside : Inside c) 
     below i h = rw (trimmed_length c₁ kept) at (loop.wires i h).0
 
     is_old : (i : ℕ) → i < length row → y i ≡ old (x i)
-    is_old i h = get_d_map old row i 0 0 h
+    is_old i h = get_or_map old row i 0 0 h
 
     -- a use along the loop
     use_old : (i j : ℕ) → i < length row → j < length row → Uses g' (x i) (x j) → Uses (graph c) (y i) (y j)

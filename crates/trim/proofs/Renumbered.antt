@@ -21,11 +21,11 @@ use Rattle.fact.specs.Certificate.{initial_fact}
 -- ---- lists
 
 -- what stands at a place of a mapped list
-pub get_d_map : {A B : Type 0} (f : A → B) (l : List A) (i : ℕ) (d : A) (e : B) → i < length l
+pub get_or_map : {A B : Type 0} (f : A → B) (l : List A) (i : ℕ) (d : A) (e : B) → i < length l
     → get_or (map f l) i e ≡ f (get_or l i d)
-get_d_map f [] i d e h = absurd (not-suc-le-zero h)
-get_d_map f (x ∷ xs) zero d e h = refl
-get_d_map f (x ∷ xs) (suc i) d e h = get_d_map f xs i d e (le_of_suc-le-suc h)
+get_or_map f [] i d e h = absurd (not-suc-le-zero h)
+get_or_map f (x ∷ xs) zero d e h = refl
+get_or_map f (x ∷ xs) (suc i) d e h = get_or_map f xs i d e (le_of_suc-le-suc h)
 
 -- a number of a mapped list is what a number of the list is mapped to
 pub member_map : (f : ℕ → ℕ) (l : List ℕ) (u : ℕ) → T (member u (map f l)) → (v : ℕ) × T (member v l) × (f v ≡ u)

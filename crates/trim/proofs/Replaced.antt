@@ -12,7 +12,7 @@ use lib.Seq.{ext_get_or}
 use Rattle.net.specs.Tests.{member}
 use Rattle.net.proofs.Bools.{true_false}
 use Rattle.net.proofs.Cases.{by_same, by_le}
-use Rattle.net.proofs.Lists.{length_list_below, get_d_list_below}
+use Rattle.net.proofs.Lists.{length_list_below, get_or_list_below}
 use Rattle.circuit.specs.declared.record.Record.{Record}
 use Rattle.circuit.specs.declared.record.Record.TheVariants.{Input, Constant, Operator, Multiplexer, Register, Enabled}
 use Rattle.circuit.specs.Number.{u32_at}
@@ -121,7 +121,7 @@ module _ (c : Circuit) (s : ℕ → Fact) where
 
   pub replaced_record : (v : ℕ) → v < length c → record_of (replaced c s) v ≡ replace (s v) (record_of c v)
   unfolding replaced
-  replaced_record v h = get_d_list_below (λ u. replace (s u) (record_of c u)) (length c) v _ h
+  replaced_record v h = get_or_list_below (λ u. replace (s u) (record_of c u)) (length c) v _ h
 
   -- it uses its variables alone where the circuit does
   pub replaced_inside : Inside c → Inside (replaced c s)

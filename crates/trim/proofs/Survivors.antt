@@ -20,7 +20,7 @@ use Rattle.circuit.specs.Stimuli.{is_input}
 use Rattle.circuit.proofs.Tables.{Inside}
 use Rattle.circuit.proofs.Stimuli.{input_record}
 use Rattle.trim.specs.Trimmed.{survives, survivors, new_number, trimmed}
-use Rattle.trim.proofs.Renumbered.{get_d_map, member_map, renumber_uses}
+use Rattle.trim.proofs.Renumbered.{get_or_map, member_map, renumber_uses}
 
 module _ (c : Circuit) (kept : List ℕ) where
   -- the old number of new record j
@@ -100,7 +100,7 @@ module _ (c : Circuit) (kept : List ℕ) where
     -- its records are the survivors', renumbered
     pub trimmed_record : record_of (trimmed c kept) j ≡ renumber (new_number c kept) (record_of c (old_number j))
     unfolding trimmed
-    trimmed_record = get_d_map (λ v. renumber (new_number c kept) (record_of c v)) (survivors c kept) j 0 _ h
+    trimmed_record = get_or_map (λ v. renumber (new_number c kept) (record_of c v)) (survivors c kept) j 0 _ h
 
     module _ (inside : Inside c) where
       -- what a record uses is the old number of its new number

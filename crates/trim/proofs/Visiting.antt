@@ -17,7 +17,7 @@ use Rattle.net.specs.Reach.{is_in, reached_set, ClosedUnderUses}
 use Rattle.net.proofs.Cases.{by_same}
 use Rattle.net.proofs.Reach.{reached_closed, reached_least}
 use Rattle.net.proofs.Put.{put_same, put_other}
-use Rattle.net.proofs.Loops.{member_get_d, member_place}
+use Rattle.net.proofs.Loops.{member_get_or, member_place}
 use Rattle.buffer.specs.Kept.{Kept}
 use Rattle.buffer.proofs.Filled.{kept_none, kept_trans}
 use Rattle.circuit.specs.Record.{uses}
@@ -179,7 +179,7 @@ module _ {c : Circuit} {n v : ℕ} {entry : List ℕ} {waiting : ℕ} (inside : 
   module _ {s : List ℕ} {stacked k u : ℕ} (p : UsesVisited c n v entry waiting s stacked k)
       (more : k < length (uses (record_of c v))) (is : u ≡ get_or (uses (record_of c v)) k 0) where
     used : Uses (graph c) v u
-    used = rw is (member_get_d (uses (record_of c v)) k more)
+    used = rw is (member_get_or (uses (record_of c v)) k more)
 
     pub use_below : u < n
     use_below = inside v u below used
@@ -197,7 +197,7 @@ module _ {c : Circuit} {n v : ℕ} {entry : List ℕ} {waiting : ℕ} (inside : 
           done = λ j h. by_same j k
               (λ e. rw (e, ← is) more-visited.here)
               (λ ne. more-visited.grows (get_or (uses (record_of c v)) j 0)
-              (inside v _ below (member_get_d (uses (record_of c v)) j (omega arith))) (p.done j (omega arith)));
+              (inside v _ below (member_get_or (uses (record_of c v)) j (omega arith))) (p.done j (omega arith)));
           balance = omega (arith, p.balance, more-visited.balance);
         }
 
@@ -291,7 +291,7 @@ module _ {n : ℕ} {kept : List ℕ} {i : ℕ} {entry s : List ℕ} {stacked u :
             (λ e. rw (e, ← is) more-visited.here)
             (λ ne. more-visited.grows (get_or kept j 0) (all-below j (omega arith)) (p.visited j (omega arith)));
         alone = λ v h k. ⊎_elim
-            (λ e. subst (λ (x : ℕ). T (member x kept)) (sym (e ∙ is)) (member_get_d kept i more))
+            (λ e. subst (λ (x : ℕ). T (member x kept)) (sym (e ∙ is)) (member_get_or kept i more))
             (λ before. p.alone v h before)
             (more-visited.alone v h k);
       }
