@@ -4,7 +4,8 @@
 #![tactic(auto)]
 
 ghost use Rattle.bench.specs.Contents.{Within};
-ghost use Rattle.std.specs.Prelude.{◌≤◌, length, IfOk};
+ghost use Rattle.std.specs.Prelude.{◌<◌, ◌≤◌, length, take, IfOk};
+ghost use Rattle.std.specs.Io.KnownBytes.{Consumes, IsAtEnd};
 
 use std::env::{Env, FillError};
 use std::fs::File;
@@ -43,8 +44,10 @@ fn read_rest(file: &mut impl Read) -> io::Result<usize>
 }
 
 // Reads until the buffer is full or the file ends. How many bytes of the buffer were read.
-fn read_full(file: &mut impl Read, buf: &mut [u8]) -> io::Result<usize>
-    ensures { IfOk result (λ n. n ≤ length buf.new) }
+fn read_full<R: Read>(file: &mut R, buf: &mut [u8]) -> io::Result<usize>
+    ensures within { IfOk result (λ n. n ≤ length buf.new) }
+    ensures read { IfOk result (λ n. Consumes (R.remaining file.old) (R.remaining file.new) (take n buf.new)) }
+    ensures ended { IfOk result (λ n. n < length buf.new → IsAtEnd (R.remaining file.new)) }
 {
     let mut done: usize = 0;
     while done < buf.len() {
