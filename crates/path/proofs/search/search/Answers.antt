@@ -1,7 +1,8 @@
 -- The head is always one of the queue; a secret input at it ends the search, and any other is done.
 -- Assumes nothing.
 use Rattle.std.proofs.Common.{arith}
-use Rattle.path.proofs.Seeking.{seeking_begun, seeking_found, search_left, head_below, head_room, head_uses, head_secret, head_open}
+use Rattle.buffer.proofs.Filled.{outside_trans}
+use Rattle.path.proofs.Seeking.{begun_kept, seeking_begun, seeking_found, search_left, head_below, head_room, head_uses, head_secret, head_open}
 use Rattle.path.proofs.search.search.Goals as goal
 
 pub loop-u-init : goal.loop-u-init
@@ -46,3 +47,9 @@ pub returns-clause-found : goal.returns-clause-found
 returns-clause-found c =
     let seek = c.loop-u.invariant in
     seeking_found seek (head_secret seek.searching c.wide-u.ensures.0 c.is_secret.ensures c.if-is_secret.true)
+
+pub returns-clause-kept_outside : goal.returns-clause-kept_outside
+returns-clause-kept_outside c =
+    outside_trans
+    (begun_kept c.requires.facts_stand c.requires.v_lt_n.0 c.requires.v_lt_n.1 c.requires.by_index)
+    c.loop-u.invariant.kept
