@@ -269,9 +269,9 @@ module _ (g : Graph) (inside : (v u : ℕ) → v < g.size → Uses g v u → u <
   Chain x (y ∷ ys) = Wire x × Uses g x y × Chain y ys
 
   -- and the last uses `end`
-  abbrev Pathto : ℕ → ℕ → List ℕ → Type 0
-  Pathto end x [] = Wire x × Uses g x end
-  Pathto end x (y ∷ ys) = Wire x × Uses g x y × Pathto end y ys
+  abbrev PathTo : ℕ → ℕ → List ℕ → Type 0
+  PathTo end x [] = Wire x × Uses g x end
+  PathTo end x (y ∷ ys) = Wire x × Uses g x y × PathTo end y ys
 
   chain : (k v : ℕ) → v < g.size → T (not (layer g k v)) → (l : List ℕ) × (length l ≡ k) × Chain v l
   chain zero v h q = ([], refl, (h, outside g zero v q))
@@ -289,13 +289,13 @@ module _ (g : Graph) (inside : (v u : ℕ) → v < g.size → Uses g v u → u <
 
   -- the part of a chain before x leads back to x
   path_back : (x w y : ℕ) (ys : List ℕ) → Wire w → Uses g w y → Chain y ys → T (member x (y ∷ ys))
-      → Pathto x w (before x (y ∷ ys))
+      → PathTo x w (before x (y ∷ ys))
   unfolding before member
   path_back x w y [] hw s c m =
-      cond_case (λ (l : List ℕ). Pathto x w l) (eqb x y) (λ e. (hw, rw (eqb→eq x y (T_of _ e)) s))
+      cond_case (λ (l : List ℕ). PathTo x w l) (eqb x y) (λ e. (hw, rw (eqb→eq x y (T_of _ e)) s))
       (λ e. or_cases (eqb x y) false m (λ t. true_false (sym (of_T _ t) ∙ e)) (λ t. absurd t))
   path_back x w y (z ∷ zs) hw s c m =
-      cond_case (λ (l : List ℕ). Pathto x w l) (eqb x y) (λ e. (hw, rw (eqb→eq x y (T_of _ e)) s))
+      cond_case (λ (l : List ℕ). PathTo x w l) (eqb x y) (λ e. (hw, rw (eqb→eq x y (T_of _ e)) s))
       (λ e. (
         hw,
         s,
@@ -305,23 +305,23 @@ module _ (g : Graph) (inside : (v u : ℕ) → v < g.size → Uses g v u → u <
 
   -- ---- from a row that leads back to its first, to document 01's loop
 
-  path_wires : (end x : ℕ) (l : List ℕ) → Pathto end x l → (i : ℕ) → i < length (x ∷ l) → Wire (get_or (x ∷ l) i 0)
+  path_wires : (end x : ℕ) (l : List ℕ) → PathTo end x l → (i : ℕ) → i < length (x ∷ l) → Wire (get_or (x ∷ l) i 0)
   path_wires end x [] p zero h = p.0
   path_wires end x [] p (suc i) h = absurd (not-suc-le-zero (le_of_suc-le-suc h))
   path_wires end x (y ∷ ys) p zero h = p.0
   path_wires end x (y ∷ ys) p (suc i) h = path_wires end y ys p.2 i (le_of_suc-le-suc h)
 
-  path_next : (end x : ℕ) (l : List ℕ) → Pathto end x l → (i : ℕ) → suc i < length (x ∷ l)
+  path_next : (end x : ℕ) (l : List ℕ) → PathTo end x l → (i : ℕ) → suc i < length (x ∷ l)
       → Uses g (get_or (x ∷ l) i 0) (get_or (x ∷ l) (suc i) 0)
   path_next end x [] p i h = absurd (not-suc-le-zero (le_of_suc-le-suc h))
   path_next end x (y ∷ ys) p zero h = p.1
   path_next end x (y ∷ ys) p (suc i) h = path_next end y ys p.2 i (le_of_suc-le-suc h)
 
-  path_last : (end x : ℕ) (l : List ℕ) → Pathto end x l → Uses g (get_or (x ∷ l) (length l) 0) end
+  path_last : (end x : ℕ) (l : List ℕ) → PathTo end x l → Uses g (get_or (x ∷ l) (length l) 0) end
   path_last end x [] p = p.1
   path_last end x (y ∷ ys) p = path_last end y ys p.2
 
-  loop_of : (x : ℕ) (l : List ℕ) → T (distinct (x ∷ l)) → Pathto x x l → Loop g (x ∷ l)
+  loop_of : (x : ℕ) (l : List ℕ) → T (distinct (x ∷ l)) → PathTo x x l → Loop g (x ∷ l)
   loop_of x l d p =
       record {
         some = omega arith;
