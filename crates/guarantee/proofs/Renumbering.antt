@@ -169,10 +169,10 @@ module _ (c : Circuit) (store : ℕ → Fact) (kept numbers : List ℕ) (k : ℕ
             same = renumbered_same new s;
             variables = λ i h.
                 let (good, passed) = stimulus_passed c s e i h in
-                let Numbers-of =
+                let numbers_of =
                 (stimulus_read s (i * 8) (stimulus_at s (i * 8))).0
                 (ap (λ (bad : Bool). read_from bad (stimulus_at s (i * 8))) good) in
-                variable_at i h (stimulus_at s (i * 8)) Numbers-of passed;
+                variable_at i h (stimulus_at s (i * 8)) numbers_of passed;
           }
 
 -- ---- the calls

@@ -195,6 +195,26 @@ const COPY: &str = r#"
     set -o pipefail
 "#;
 
+/// Files are read whose names are no ASCII, or no text. What is not there is not.
+#[test]
+fn names_of_files() {
+    let folder = concat!(env!("CARGO_TARGET_TMPDIR"), "/names of files");
+    for name in ["é", "$'\\xe9'", "$'\\xf4\\x90\\x80\\x80'"] {
+        let copies = format!(
+            "mkdir -p '{folder}' && f='{folder}'/{name} && cp examples/trimmed_core/table \"$f\" && \
+             cp examples/trimmed_core/certificate \"$f.c\" && cp /dev/null \"$f.s\" && "
+        );
+        for call in ["bin/certify \"$f\"", "bin/bench \"$f\" \"$f.s\"", "bin/trim \"$f\" \"$f.c\" 43", "bin/path \"$f\" 0"] {
+            let same = call.replace("$f.c", "examples/trimmed_core/certificate").replace("$f.s", "/dev/null");
+            let same = same.replace("$f", "examples/trimmed_core/table");
+            assert_ends(&format!("{copies}diff <({call} 2>&1; echo $?) <({same} 2>&1; echo $?)"), 0, (false, false));
+        }
+        for call in ["bin/bench \"$f.x\" \"$f.s\"", "bin/trim \"$f.x\" \"$f.c\" 43", "bin/path \"$f.x\" 0"] {
+            assert_ends(&format!("{copies}{call}"), 2, ERRORS);
+        }
+    }
+}
+
 /// What a program says before it fails is printed, and is no refusal.
 #[test]
 fn programs_that_fail() {
