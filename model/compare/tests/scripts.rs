@@ -204,12 +204,23 @@ fn names_of_files() {
             "mkdir -p '{folder}' && f='{folder}'/{name} && cp examples/trimmed_core/table \"$f\" && \
              cp examples/trimmed_core/certificate \"$f.c\" && cp /dev/null \"$f.s\" && "
         );
-        for call in ["bin/certify \"$f\"", "bin/bench \"$f\" \"$f.s\"", "bin/trim \"$f\" \"$f.c\" 43", "bin/path \"$f\" 0"] {
-            let same = call.replace("$f.c", "examples/trimmed_core/certificate").replace("$f.s", "/dev/null");
+        for call in [
+            "bin/certify \"$f\"",
+            "bin/bench \"$f\" \"$f.s\"",
+            "bin/trim \"$f\" \"$f.c\" 43",
+            "bin/path \"$f\" 0",
+        ] {
+            let same =
+                call.replace("$f.c", "examples/trimmed_core/certificate").replace("$f.s", "/dev/null");
             let same = same.replace("$f", "examples/trimmed_core/table");
-            assert_ends(&format!("{copies}diff <({call} 2>&1; echo $?) <({same} 2>&1; echo $?)"), 0, (false, false));
+            assert_ends(
+                &format!("{copies}diff <({call} 2>&1; echo $?) <({same} 2>&1; echo $?)"),
+                0,
+                (false, false),
+            );
         }
-        for call in ["bin/bench \"$f.x\" \"$f.s\"", "bin/trim \"$f.x\" \"$f.c\" 43", "bin/path \"$f.x\" 0"] {
+        for call in ["bin/bench \"$f.x\" \"$f.s\"", "bin/trim \"$f.x\" \"$f.c\" 43", "bin/path \"$f.x\" 0"]
+        {
             assert_ends(&format!("{copies}{call}"), 2, ERRORS);
         }
     }

@@ -108,9 +108,9 @@ pub fn run(name: &str, arguments: &[PathBuf], input: &[u8], piece: usize) -> Pri
     let program = program(name);
     let mut command = Command::new(&program);
     command.args(arguments).stdin(Stdio::piped()).stdout(Stdio::piped()).stderr(Stdio::piped());
-    let mut child = command
-        .spawn()
-        .unwrap_or_else(|error| panic!("{}: {error}; build it first: rt run in crates/{name}", program.display()));
+    let mut child = command.spawn().unwrap_or_else(|error| {
+        panic!("{}: {error}; build it first: rt run in crates/{name}", program.display())
+    });
     let pipe = child.stdin.take().expect("standard input is piped");
     let printed = thread::scope(|scope| {
         scope.spawn(|| write_pieces(pipe, input, piece));
