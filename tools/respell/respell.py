@@ -128,6 +128,24 @@ def edit(text, rows):
     return "".join(out)
 
 
+def reason(text, path):
+    """`ground` outside comments; of an edit in its texts alone."""
+    mark = "--" if path.endswith(".antt") else "//"
+    out = []
+    for line in text.split("\n"):
+        if path.endswith(".edit"):
+            code, rest = (line, "") if line.startswith(("old: ", "new: ")) else ("", line)
+        else:
+            code, found, rest = line.partition(mark)
+            rest = found + rest
+        out.append(re.sub(r"(?<![\w'-])ground(?![\w'-])", "reason", code) + rest)
+    text = "\n".join(out)
+    if re.search(r"\bas reason\b", text):
+        text = re.sub(r"\bas reason\b", "as grounds", text)
+        text = re.sub(r"\breason(?=\.[A-Z])", "grounds", text)
+    return text
+
+
 # A module's other name in a file, which would read as a definition that the file brings in.
 ALIASES = {"engine/specs/Ready.antt": ("record_of", "records")}
 
@@ -149,6 +167,7 @@ def turn_all(root):
             new = rt(text, rows)
         else:
             new = edit(text, rows)
+        new = reason(new, path)
         if new != text:
             with open(path, "w", encoding="utf-8") as f:
                 f.write(new)
