@@ -4,30 +4,17 @@
 use mathlib.Core.Path.{◌≡◌, refl, ap, ◌∙◌}
 use mathlib.Core.List.{List}
 use Prim.Native.Nat.{ℕ, ◌+◌, ◌*◌, ◌/◌, ◌%◌, ◌<◌, ◌≤◌}
-use native.Mathlib.Nat.{add-zero}
 use native.Mathlib.Numerals.{add-one, add-two}
 use native.Mathlib.Omega.{arith}
 use lib.ListN.{length, get_or, set}
 use Rattle.buffer.specs.Kept.{KeptOutside}
 use Rattle.buffer.specs.Store.{Wrote, Stands}
-use Rattle.buffer.proofs.Layouts.{LayoutLaws, wrote_sets}
-use Rattle.buffer.proofs.Store.{stands_read}
-use Rattle.circuit.specs.Circuit.{circuit}
-use Rattle.circuit.specs.Checks.{Checked}
+use Rattle.buffer.proofs.Layouts.{wrote_sets}
 use Rattle.fact.specs.declared.Fact.{Fact}
 use Rattle.fact.specs.declared.Fact.TheVariants.{Always, Open, Marked}
 use Rattle.fact.specs.Fact.{fact_byte, fact_number, fact_of}
-use Rattle.fact.specs.Rule.{rule}
-use Rattle.engine.proofs.Passes.{Gives, gives_read}
-use Rattle.certificate.proofs.Rounds.{lawful}
+use Rattle.analysis.specs.Laws.{words_laws}
 use Rattle.analysis.specs.Cells.{words, words_at}
-
-pub words_laws : LayoutLaws words
-words_laws =
-    record {
-      size = λ x. refl;
-      local = λ k l i j h. cc (simp add-zero at (h 0 (omega arith)), h 1 (omega arith), h 2 (omega arith));
-    }
 
 fact_of_lem : (f : Fact) (n : ℕ) → n ≡ fact_number f → fact_of (fact_byte f) n ≡ f
 fact_of_lem (Always m) n e = ap Always e
@@ -59,8 +46,3 @@ module _ {n from to : ℕ} {s s' : List ℕ} (low : n * 3 ≤ from) (p : KeptOut
               reads = words_laws.local s' s (0 + v * 3) (0 + v * 3) here ∙ (q.cell v h).reads;
             };
       }
-
--- a fact that the rule gives on the facts that are read
-pub gives_words : {t : List ℕ} {n : ℕ} (table : Checked t n) {l : List ℕ} {v : ℕ} {f : Fact} → v < n
-    → f ≡ rule (circuit t n) (words_at l) v → Gives words n (rule (circuit t n)) l v f
-gives_words table {l} = gives_read words_laws (lawful table) (words_at l) (λ s p. stands_read p)

@@ -2,19 +2,21 @@
 -- Assumes nothing.
 use mathlib.Core.Path.{◌≡◌, refl, sym, ap, ◌∙◌}
 use mathlib.Core.Bool.{Bool, true, false, not}
-use mathlib.Core.List.{List}
-use Prim.Native.Nat.{ℕ, zero, suc, ◌+◌, ◌-◌, ◌*◌, ◌/◌, ◌%◌, ◌<◌}
+use mathlib.Core.List.{List, ◌∷◌}
+use Prim.Native.Nat.{ℕ, zero, suc, ◌+◌, ◌-◌, ◌*◌, ◌/◌, ◌%◌, ◌<◌, ◌≤◌}
 use native.Mathlib.Nat.{add-zero, div-div-eq-div-mul}
 use native.Mathlib.Omega.{arith}
 use borrow.Author.Tests.{eq-eqb, eqb-true, not-true, not-false}
 use lib.Dec.{eqb}
-use lib.ListN.{length, get_or}
+use lib.ListN.{length, get_or, take, drop, length-drop}
+use lib.Seq.{ext_get_or, get_or-take, get_or-drop, length-take-le}
+use Rattle.std.specs.Cmp.Lexicographic.{pointwise, same_text, other_text}
 use Rattle.net.proofs.Bools.{T_of, of_T, not_both, all_at, all_of, fails_below}
 use Rattle.buffer.specs.Store.{Stands}
 use Rattle.circuit.specs.declared.refusal.Ground.{Ground}
 use Rattle.circuit.specs.declared.refusal.Ground.TheVariants.{ForeignCertificate}
-use Rattle.circuit.specs.declared.refusal.Check.{Check}
-use Rattle.circuit.specs.declared.refusal.Check.TheVariants.{Passed}
+use Rattle.circuit.specs.Refusal.{Check}
+use Rattle.circuit.specs.Refusal.{passed}
 use Rattle.circuit.specs.Refusal.{refuse_first}
 use Rattle.circuit.specs.Circuit.{Circuit, circuit}
 use Rattle.circuit.proofs.Places.{Refusals}
@@ -41,14 +43,6 @@ module _ (cells : List ℕ) (at : ℕ) (bytes : List ℕ) where
   unfolding same_bytes
   bytes_known e m l = eqb-true _ _ (of_T (same_at m) (all_at same_at 8 (T_of _ e) m l))
 
-  -- one of them is another
-  pub byte_differs : (m : ℕ) → m < 8 → (get_or cells (at + m) 0 ≡ get_or bytes m 0 → ⊥) → same_bytes cells at bytes ≡ false
-  byte_differs m l ne = go (same_bytes cells at bytes) refl
-    where
-      go : (b : Bool) → same_bytes cells at bytes ≡ b → b ≡ false
-      go true e = absurd (ne (bytes_known e m l))
-      go false e = refl
-
   some_differs : same_bytes cells at bytes ≡ false
       → (m : ℕ) × (m < 8) × (get_or cells (at + m) 0 ≡ get_or bytes m 0 → ⊥)
   unfolding same_bytes
@@ -56,24 +50,44 @@ module _ (cells : List ℕ) (at : ℕ) (bytes : List ℕ) where
       let (m, l, t) = fails_below same_at 8 (rw e tt) in
       (m, l, λ same. not_both (same_at m) (T_of (same_at m) (eq-eqb _ _ same)) t)
 
-  -- from each of them
-  pub eight_same : get_or cells at 0 ≡ get_or bytes 0 0 → get_or cells (at + 1) 0 ≡ get_or bytes 1 0
-      → get_or cells (at + 2) 0 ≡ get_or bytes 2 0 → get_or cells (at + 3) 0 ≡ get_or bytes 3 0
-      → get_or cells (at + 4) 0 ≡ get_or bytes 4 0 → get_or cells (at + 5) 0 ≡ get_or bytes 5 0
-      → get_or cells (at + 6) 0 ≡ get_or bytes 6 0 → get_or cells (at + 7) 0 ≡ get_or bytes 7 0
-      → same_bytes cells at bytes ≡ true
-  eight_same e₀ e₁ e₂ e₃ e₄ e₅ e₆ e₇ = bytes_same each
+-- the first byte is one, and a test of the other seven in a row has told
+module _ (cells : List ℕ) (at byte : ℕ) (row : List ℕ) (first : get_or cells at 0 ≡ byte) (seven : length row ≡ 7)
+    (room : at + 8 ≤ length cells) where
+  abbrev others : List ℕ
+  others = take (at + 8 - (at + 1)) (drop (at + 1) cells)
+
+  others_length : length others ≡ 7
+  others_length =
+      length-take-le (at + 8 - (at + 1)) (drop (at + 1) cells) (omega (arith, length-drop (at + 1) cells)) ∙ omega arith
+
+  others_at : (m : ℕ) → m < 7 → get_or others m 0 ≡ get_or cells (at + suc m) 0
+  others_at m l =
+      let place : at + 1 + m ≡ at + suc m = omega arith in
+      get_or-take (at + 8 - (at + 1)) (drop (at + 1) cells) m 0 (omega arith)
+      ∙ get_or-drop (at + 1) cells m 0
+      ∙ ap (λ (i : ℕ). get_or cells i 0) place
+
+  row_same : others ≡ row → same_bytes cells at (byte ∷ row) ≡ true
+  row_same e = bytes_same cells at (byte ∷ row) each
     where
-      each : (m : ℕ) → m < 8 → get_or cells (at + m) 0 ≡ get_or bytes m 0
-      each zero l = rw (add-zero at) e₀
-      each (suc zero) l = e₁
-      each (suc (suc zero)) l = e₂
-      each (suc (suc (suc zero))) l = e₃
-      each (suc (suc (suc (suc zero)))) l = e₄
-      each (suc (suc (suc (suc (suc zero))))) l = e₅
-      each (suc (suc (suc (suc (suc (suc zero)))))) l = e₆
-      each (suc (suc (suc (suc (suc (suc (suc zero))))))) l = e₇
-      each (suc (suc (suc (suc (suc (suc (suc (suc m)))))))) l = absurd (omega arith)
+      each : (m : ℕ) → m < 8 → get_or cells (at + m) 0 ≡ get_or (byte ∷ row) m 0
+      each zero l = rw (add-zero at) first
+      each (suc m) l = sym (others_at m (omega arith)) ∙ ap (λ (xs : List ℕ). get_or xs m 0) e
+
+  row_known : same_bytes cells at (byte ∷ row) ≡ true → others ≡ row
+  row_known e =
+      ext_get_or 0 others row (others_length ∙ sym seven)
+      (λ m l.
+      let k : m < 7 = omega (arith, others_length) in
+      others_at m k ∙ bytes_known cells at (byte ∷ row) e (suc m) (omega arith))
+
+  pub row_told : (told : Bool) → told ≡ pointwise eqb others row → told ≡ same_bytes cells at (byte ∷ row)
+  row_told true e = sym (row_same (same_text others row e))
+  row_told false e = go (same_bytes cells at (byte ∷ row)) refl
+    where
+      go : (b : Bool) → same_bytes cells at (byte ∷ row) ≡ b → false ≡ b
+      go true is = absurd (other_text others row e (row_known is))
+      go false is = refl
 
 -- ---- a fact's numbers in the scratch
 
@@ -126,14 +140,14 @@ module _ (c : Circuit) (cells : List ℕ) where
   OwnByte v m = get_or cells (v * 8 + m) 0 ≡ get_or (fact_bytes (certificate c v)) m 0
 
   -- where it passes, all bytes are the certificate's
-  pub own_known : check_own c cells ≡ Passed → (v m : ℕ) → v < length c → m < 8 → OwnByte v m
+  pub own_known : check_own c cells ≡ passed → (v m : ℕ) → v < length c → m < 8 → OwnByte v m
   unfolding check_own
   own_known e v m h l =
       bytes_known cells (v * 8) (fact_bytes (certificate c v))
       (not-false _ (first_known ForeignCertificate _ (length c) 0 e v (omega arith) (omega arith))) m l
 
   -- where all are, it passes
-  pub own_passes : ((v m : ℕ) → v < length c → m < 8 → OwnByte v m) → check_own c cells ≡ Passed
+  pub own_passes : ((v m : ℕ) → v < length c → m < 8 → OwnByte v m) → check_own c cells ≡ passed
   unfolding check_own
   own_passes h =
       first_none ForeignCertificate _ (length c) 0

@@ -1,12 +1,11 @@
 -- How facts stand in a scratch of 16-bit numbers: three a variable in front, and behind them the order of the wires and
 -- registers and what is staged of a round.
 -- Assumes nothing.
-use Rattle.std.specs.Prelude.{List, [], ◌∷◌, ◌++◌, ℕ, ◌+◌, ◌*◌, ◌/◌, ◌%◌, get_or, drop}
+use Rattle.std.specs.Prelude.{List, [], ◌∷◌, ◌++◌, ℕ, ◌+◌, ◌*◌, ◌/◌, ◌%◌, get_or}
 use Rattle.buffer.specs.Store.{Layout}
 use Rattle.circuit.specs.Number.{u16_bytes}
 use Rattle.fact.specs.declared.Fact.{Fact}
 use Rattle.fact.specs.Fact.{fact_byte, fact_number, fact_of}
-use Rattle.engine.specs.Ready.{Wired, Ready}
 
 -- a fact as byte 0 of its 8 bytes and the two halves of its number, the low one first
 abbrev pub words : Layout Fact
@@ -31,15 +30,3 @@ word_bytes_at s v = word_bytes (get_or s (v * 3) 0) (get_or s (v * 3 + 1) 0) (ge
 -- how many 16-bit numbers a record a call asks of the scratch that has the facts worked out in it
 abbrev pub room : ℕ
 room = 8
-
--- what lies behind the facts of n variables
-abbrev pub behind : ℕ → List ℕ → List ℕ
-behind n s = drop (n * 3) s
-
--- the wires stand behind the facts, in their order
-abbrev pub WiredBehind : List ℕ → ℕ → List ℕ → ℕ → Type 0
-WiredBehind t n s wires = Wired words t n (behind n s) wires s
-
--- and the registers behind them, with room for what is staged
-abbrev pub ReadyBehind : List ℕ → ℕ → List ℕ → ℕ → ℕ → Type 0
-ReadyBehind t n s wires registers = Ready words 2 t n (behind n s) wires registers s

@@ -3,7 +3,7 @@
 use Rattle.std.specs.Prelude.{Bool, not, List, ℕ, ◌+◌, ◌*◌, eqb, length, get_or}
 use Rattle.net.specs.Tests.{all_below}
 use Rattle.circuit.specs.declared.refusal.Ground.TheVariants.{ForeignCertificate}
-use Rattle.circuit.specs.declared.refusal.Check.{Check}
+use Rattle.circuit.specs.Refusal.{Check}
 use Rattle.circuit.specs.Refusal.{refuse_first}
 use Rattle.circuit.specs.Circuit.{Circuit}
 use Rattle.fact.specs.Fact.{fact_bytes}

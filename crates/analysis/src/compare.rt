@@ -5,7 +5,6 @@ ghost use Rattle.circuit.specs.Refusal.{refuse_first};
 ghost use Rattle.analysis.specs.Cells.{word_bytes, word_bytes_at};
 ghost use Rattle.analysis.specs.Own.{same_bytes};
 
-use circuit::number::wide16;
 use circuit::refusal::{Check, Ground};
 
 // Whether the 8 bytes from a place on are those of a fact with these three numbers.
@@ -14,31 +13,9 @@ fn same_bytes(cells: &[u8], at: usize, byte: u16, low: u16, high: u16) -> bool
     requires { at + 8 ≤ length cells.now }
     ensures { result ≡ same_bytes cells.now at (word_bytes byte low high) }
 {
-    if wide16(cells[at]) != byte {
-        return false;
-    }
-    if cells[at + 1] != 0 {
-        return false;
-    }
-    if cells[at + 2] != 0 {
-        return false;
-    }
-    if cells[at + 3] != 0 {
-        return false;
-    }
-    if cells[at + 4] != (low % 256) as u8 {
-        return false;
-    }
-    if cells[at + 5] != (low / 256 % 256) as u8 {
-        return false;
-    }
-    if cells[at + 6] != (high % 256) as u8 {
-        return false;
-    }
-    if cells[at + 7] != (high / 256 % 256) as u8 {
-        return false;
-    }
-    true
+    let [a, b] = low.to_le_bytes();
+    let [c, d] = high.to_le_bytes();
+    u16::from(cells[at]) == byte && cells[at + 1..at + 8] == [0, 0, 0, a, b, c, d]
 }
 
 // The first of n variables whose 8 bytes are not those of its fact.
@@ -47,14 +24,11 @@ pub fn check_own(n: usize, certificate: &[u8], s: &[u16]) -> Check
     ensures { result ≡ refuse_first ForeignCertificate
         (λ v. not (same_bytes certificate.now (v * 8) (word_bytes_at s.now v))) n 0 }
 {
-    let mut left = n;
-    while 0 < left {
-        let v = n - left;
+    for v in 0..n {
         let at = v * 3;
         if !same_bytes(certificate, v * 8, s[at], s[at + 1], s[at + 2]) {
-            return Check::Refused(Ground::ForeignCertificate, v);
+            return Err(Ground::ForeignCertificate.at(v));
         }
-        left -= 1;
     }
-    Check::Passed
+    Ok(())
 }

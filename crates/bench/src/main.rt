@@ -1,10 +1,10 @@
 // Runs the stimuli of one file on the table of another: bench TABLE STIMULI. Prints the state in the end, or why the
 // table or the list is refused. Only reading and writing is done here; the answer and its text come from the proved
 // library `text`.
+// What the programs have alike stands in each: a library may not name std's files, arguments and errors (.ci/run).
 #![tactic(auto)]
 
-ghost use Rattle.bench.specs.Contents.{Within};
-ghost use Rattle.std.specs.Prelude.{◌<◌, ◌≤◌, length, take, IfOk};
+ghost use Rattle.std.specs.Prelude.{◌<◌, ◌≤◌, length, take, IfOk, IfSome};
 ghost use Rattle.std.specs.Io.KnownBytes.{Consumes, IsAtEnd};
 
 use std::env::{Env, FillError};
@@ -13,13 +13,6 @@ use std::io;
 use std::io::{Error, ErrorKind, Read, Write};
 use std::rt::Files;
 use text::bench_text;
-
-// What was read of a file: so many bytes of it; or nothing, since it cannot be read, which was said.
-#[derive(Clone, Copy)]
-enum Contents {
-    Bytes(usize),
-    Unreadable,
-}
 
 // One read of what a buffer does not hold any more: how many bytes there were, and 0 at the end.
 fn read_piece(file: &mut impl Read) -> io::Result<usize> {
@@ -44,6 +37,8 @@ fn read_rest(file: &mut impl Read) -> io::Result<usize>
 }
 
 // Reads until the buffer is full or the file ends. How many bytes of the buffer were read.
+// (std's `read_exact` does not tell how much of a shorter one was read.)
+#[tactic(auto, using(text::proofs::Reading::read_more))]
 fn read_full<R: Read>(file: &mut R, buf: &mut [u8]) -> io::Result<usize>
     ensures within { IfOk result (λ n. n ≤ length buf.new) }
     ensures read { IfOk result (λ n. Consumes (R.remaining file.old) (R.remaining file.new) (take n buf.new)) }
@@ -103,19 +98,24 @@ fn has_argument(rt: &impl Env, i: usize) -> bool {
     !matches!(rt.arg(i, &mut [0u8; 0]), Err(FillError::NotPresent))
 }
 
-// Reads the file that argument i names, or says why it cannot be read.
-fn read_file(rt: &(impl Env + Files), errors: &impl Print, i: usize, buf: &mut [u8]) -> Contents
+// Reads the file that argument i names, or says why it cannot be read. How many bytes of the buffer were read.
+fn read_file(
+    rt: &(impl Env + Files),
+    errors: &impl Print,
+    i: usize,
+    buf: &mut [u8],
+) -> Option<usize>
     requires { 8 ≤ length buf.old }
-    ensures { Within result (length buf.new) }
+    ensures { IfSome result (λ n. n ≤ length buf.new) }
 {
     let mut space = [0u8; 4096];
     let n = rt.arg(i, &mut space).unwrap_or(0);
     let path = &space[..n];
     match read_path(rt, path, buf) {
-        Ok(bytes) => Contents::Bytes(bytes),
+        Ok(bytes) => Some(bytes),
         Err(why) => {
             fail(errors, path, why);
-            Contents::Unreadable
+            None
         }
     }
 }
@@ -139,13 +139,11 @@ fn main(rt: HostRuntime) {
         return;
     }
     let mut table = [0u8; 65560];
-    let table_read = read_file(&rt, &errors, 1, &mut table);
-    let Contents::Bytes(t) = table_read else {
+    let Some(t) = read_file(&rt, &errors, 1, &mut table) else {
         return;
     };
     let mut stimuli = [0u8; 32784];
-    let stimuli_read = read_file(&rt, &errors, 2, &mut stimuli);
-    let Contents::Bytes(s) = stimuli_read else {
+    let Some(s) = read_file(&rt, &errors, 2, &mut stimuli) else {
         return;
     };
     print_run(&rt, &errors, &table[..t], &stimuli[..s]);

@@ -1,27 +1,13 @@
 // Bills the order whose sizes are the arguments: bill_order SIZE... Prints the bill and each size's share, or why the
 // order is refused. Only reading and writing is done here; the answer and its text come from the proved library `text`.
+// What the programs have alike stands in each: a library may not name std's files, arguments and errors (.ci/run).
 #![tactic(auto)]
 
-ghost use Rattle.bill_order.specs.Sizes.{Within};
-ghost use Rattle.std.specs.Prelude.{◌≡◌, ◌+◌, ◌≤◌, min, length, set};
+ghost use Rattle.std.specs.Prelude.{◌≡◌, ◌+◌, ◌≤◌, min, length, set, IfSome};
 
 use std::env::{Env, FillError};
 use text::bill_text;
-use text::word::{ReadNumber, read_number};
-
-// A size; or the word is none, which was said.
-#[derive(Clone, Copy)]
-enum Size {
-    Number(u32),
-    Unread,
-}
-
-// So many sizes are kept; or a word is none.
-#[derive(Clone, Copy)]
-enum Sizes {
-    Kept(usize),
-    Unread,
-}
+use text::word::{NumberError, read_number};
 
 // One line on standard error: what is wrong with size i.
 fn complain(errors: &impl Print, i: usize, what: &str) {
@@ -34,26 +20,21 @@ fn has_argument(rt: &impl Env, i: usize) -> bool {
 }
 
 // The size that argument i is, or a complaint. Argument 0 is the program's name.
-fn read_size(rt: &impl Env, errors: &impl Print, i: usize) -> Size
+fn read_size(rt: &impl Env, errors: &impl Print, i: usize) -> Option<u32>
     requires { 1 ≤ i }
 {
     let mut space = [0u8; 4096];
     let Ok(n) = rt.arg(i, &mut space) else {
         complain(errors, i - 1, "has more than 4096 bytes");
-        return Size::Unread;
+        return None;
     };
-    let word = read_number(&space[..n]);
-    match word {
-        ReadNumber::Number(x) => Size::Number(x),
-        ReadNumber::NoNumber => {
-            complain(errors, i - 1, "is no number");
-            Size::Unread
-        }
-        ReadNumber::TooWide => {
-            complain(errors, i - 1, "needs more than 32 bits");
-            Size::Unread
-        }
-    }
+    let fault = match read_number(&space[..n]) {
+        Ok(size) => return Some(size),
+        Err(NumberError::NoNumber) => "is no number",
+        Err(NumberError::TooWide) => "needs more than 32 bits",
+    };
+    complain(errors, i - 1, fault);
+    None
 }
 
 // Keeps a size behind the first `kept`, where there is room. How many are kept then.
@@ -69,22 +50,19 @@ fn keep(sizes: &mut [u32], kept: usize, size: u32) -> usize
     kept
 }
 
-// Reads every word, and keeps as many sizes as there is room for.
-fn read_sizes(rt: &impl Env, errors: &impl Print, sizes: &mut [u32]) -> Sizes
-    ensures { Within result (length sizes.new) }
+// Reads every word, and keeps as many sizes as there is room for. How many are kept; or none, where a word is no size.
+fn read_sizes(rt: &impl Env, errors: &impl Print, sizes: &mut [u32]) -> Option<usize>
+    ensures { IfSome result (λ n. n ≤ length sizes.new) }
 {
     let mut kept: usize = 0;
     for i in 1..usize::MAX {
         if !has_argument(rt, i) {
             break;
         }
-        let size = read_size(rt, errors, i);
-        let Size::Number(x) = size else {
-            return Sizes::Unread;
-        };
-        kept = keep(sizes, kept, x);
+        let size = read_size(rt, errors, i)?;
+        kept = keep(sizes, kept, size);
     }
-    Sizes::Kept(kept)
+    Some(kept)
 }
 
 // Prints what the call answers.
@@ -101,8 +79,7 @@ fn print_bill(output: &impl Print, errors: &impl Print, sizes: &[u32]) {
 fn main(rt: HostRuntime) {
     let errors = rt.stderr();
     let mut sizes = [0u32; 65];
-    let read = read_sizes(&rt, &errors, &mut sizes);
-    let Sizes::Kept(n) = read else {
+    let Some(n) = read_sizes(&rt, &errors, &mut sizes) else {
         return;
     };
     print_bill(&rt, &errors, &sizes[..n]);

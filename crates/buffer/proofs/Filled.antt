@@ -18,6 +18,28 @@ kept_trans p q = record { long = q.long ∙ p.long; beyond = λ i l. q.beyond i 
 pub kept_none : (m : ℕ) (a : List ℕ) → Kept m a a
 kept_none m a = record { long = refl; beyond = λ i l. refl }
 
+pub kept_wider : {m m' : ℕ} {a b : List ℕ} → m ≤ m' → Kept m a b → Kept m' a b
+kept_wider h p = record { long = p.long; beyond = λ i l. p.beyond i (omega arith) }
+
+pub outside_kept : {from to : ℕ} {a b : List ℕ} → KeptOutside from to a b → Kept to a b
+outside_kept p = record { long = p.long; beyond = p.beyond }
+
+-- past some numbers behind the first k, whatever stands in front
+pub kept_behind : {m : ℕ} (k : ℕ) (l front back : List ℕ) → k ≤ length l → length front ≡ k → Kept m (drop k l) back
+    → Kept (k + m) l (front ++ back)
+kept_behind {m} k l front back h e p =
+    record {
+      long = omega (arith, length-append front back, p.long, length-drop k l);
+      beyond = λ i low.
+          let place : i ≡ length front + (i - k) = omega arith in
+          let same : k + (i - k) ≡ i = omega arith in
+          ap (λ (j : ℕ). get_or (front ++ back) j 0) place
+          ∙ get_or-append-add front back (i - k) 0
+          ∙ p.beyond (i - k) (omega arith)
+          ∙ get_or-drop k l (i - k) 0
+          ∙ ap (λ (j : ℕ). get_or l j 0) same;
+    }
+
 pub outside_trans : {from to : ℕ} {a b c : List ℕ} → KeptOutside from to a b → KeptOutside from to b c
     → KeptOutside from to a c
 outside_trans p q =

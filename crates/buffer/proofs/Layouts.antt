@@ -1,9 +1,9 @@
--- What is asked of a layout, and that values written as its numbers stand where they were written.
+-- That values written as the numbers of a layout stand where they were written.
 -- Assumes nothing.
 use mathlib.Core.Path.{◌≡◌, refl, sym, ap, ◌∙◌}
 use mathlib.Core.Logic.{◌⊎◌, inl, inr}
 use mathlib.Core.List.{List, [], ◌∷◌, ◌++◌, append_assoc}
-use Prim.Native.Nat.{ℕ, suc, ◌+◌, ◌-◌, ◌*◌, ◌<◌, ◌≤◌}
+use Prim.Native.Nat.{ℕ, suc, ◌+◌, ◌*◌, ◌<◌, ◌≤◌}
 use native.Mathlib.Nat.{mul-le-mul_right, suc-mul, zero-add, add-zero}
 use native.Mathlib.Numerals.{add-one}
 use native.Mathlib.Omega.{arith}
@@ -12,13 +12,8 @@ use lib.Seq.{sets, sets-eq, length-take-le, get_or-append-add}
 use Rattle.buffer.specs.Kept.{KeptOutside}
 use Rattle.net.proofs.Cases.{by_le}
 use Rattle.buffer.proofs.Filled.{outside_none, outside_set}
+pub use Rattle.buffer.specs.Store.{LayoutLaws}
 use Rattle.buffer.specs.Store.{Layout, numbers, Wrote}
-
--- a value has `each` numbers, and what is read from a place on depends on `each` numbers from there on
-pub record LayoutLaws {A : Type 0} (L : Layout A) : Type 0 where
-  pub size : (x : A) → length (L.image x) ≡ L.each
-  pub local : (k l : List ℕ) (i j : ℕ) → ((m : ℕ) → m < L.each → get_or k (i + m) 0 ≡ get_or l (j + m) 0)
-      → L.at k i ≡ L.at l j
 
 -- two values' places do not meet
 pub apart : (each u v m : ℕ) → m < each → (u ≡ v → ⊥) → (u * each + m < v * each) ⊎ (v * each + each ≤ u * each + m)

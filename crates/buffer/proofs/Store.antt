@@ -7,7 +7,7 @@ use mathlib.Core.List.{List, [], ◌∷◌, ◌++◌, flat_map, append_assoc}
 use Prim.Native.Nat.{ℕ, zero, suc, ◌+◌, ◌-◌, ◌*◌, ◌<◌, ◌≤◌}
 use native.Mathlib.Nat.{not-suc-le-zero, mul-le-mul_right, suc-mul, zero-add, mul-one}
 use native.Mathlib.Omega.{arith}
-use lib.ListN.{length, get_or, take, drop, length-drop, take-append-drop}
+use lib.ListN.{length, get_or, take, drop, length-drop, take-append-drop, get_or-append}
 use lib.Seq.{ext_get_or, length-take-le, get_or-take, get_or-drop, drop-drop}
 use Rattle.net.specs.Net.{list_below, put}
 use Rattle.buffer.specs.Kept.{Kept}
@@ -65,6 +65,18 @@ module _ {A : Type 0} {L : Layout A} (layout : LayoutLaws L) where
       → ((m : ℕ) → m < L.each → get_or l' (i + m) 0 ≡ get_or l (i + m) 0) → Cell L l i x → Cell L l' i x
   cell_same {l} {l'} {i} h p =
       record { stands = λ m q. h m q ∙ p.stands m q; reads = layout.local l' l i i h ∙ p.reads }
+
+  -- a store that stands in front, in a longer list
+  pub stands_front : {n : ℕ} {s : ℕ → A} (l rest : List ℕ) → n * L.each ≤ length l → Stands L 0 n s l
+      → Stands L 0 n s (l ++ rest)
+  stands_front {n} l rest room p =
+      record {
+        cell = λ v h.
+            cell_same
+            (λ m q.
+            get_or-append l rest 0 (0 + v * L.each + m) (omega (arith, place_below L.each n v h)))
+            (p.cell v h);
+      }
 
   cell_elsewhere : {l l' : List ℕ} (from u v : ℕ) {i : ℕ} {x y : A} → i ≡ from + v * L.each → Wrote L l l' i x
       → (u ≡ v → ⊥) → Cell L l (from + u * L.each) y → Cell L l' (from + u * L.each) y

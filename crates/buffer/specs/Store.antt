@@ -1,7 +1,7 @@
 -- Stores in buffers of numbers, over any type of values: how values stand in them, and what a call leaves there. For
 -- contracts of what works on them.
 -- Assumes nothing.
-use Rattle.std.specs.Prelude.{◌≡◌, List, [], ◌∷◌, ℕ, ◌+◌, ◌*◌, ◌<◌, get_or}
+use Rattle.std.specs.Prelude.{◌≡◌, List, [], ◌∷◌, ℕ, ◌+◌, ◌*◌, ◌<◌, length, get_or}
 use Rattle.buffer.specs.Kept.{Kept, KeptOutside}
 
 -- how a value stands in a row of numbers: as how many, as which, and what is read from a place on
@@ -9,6 +9,13 @@ pub record Layout (A : Type 0) : Type 0 where
   pub each : ℕ
   pub image : A → List ℕ
   pub at : List ℕ → ℕ → A
+
+-- what is asked of a layout: a value has `each` numbers, and what is read from a place on depends on `each` numbers
+-- from there on
+pub record LayoutLaws {A : Type 0} (L : Layout A) : Type 0 where
+  pub size : (x : A) → length (L.image x) ≡ L.each
+  pub local : (k l : List ℕ) (i j : ℕ) → ((m : ℕ) → m < L.each → get_or k (i + m) 0 ≡ get_or l (j + m) 0)
+      → L.at k i ≡ L.at l j
 
 -- a number as itself
 abbrev pub numbers : Layout ℕ

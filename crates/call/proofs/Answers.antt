@@ -11,12 +11,12 @@ use lib.ListN.{length, drop, replicate, length-append}
 use Rattle.net.specs.Loop.{Loop}
 use Rattle.net.proofs.Loops.{loop_short}
 use Rattle.circuit.specs.declared.refusal.Ground.{Ground}
-use Rattle.circuit.specs.declared.refusal.Check.TheVariants.{Passed}
-use Rattle.circuit.specs.Refusal.{ground_number, Finds}
+use Rattle.std.specs.Prelude.{Ok, Err}
+use Rattle.circuit.specs.Refusal.{ground_number, passed, Finds}
 use Rattle.circuit.specs.Circuit.{graph}
 use Rattle.circuit.proofs.Places.{Refusals, refusal_found, call_refusals}
 use Rattle.circuit.proofs.Tables.{circuit_length}
-use Rattle.call.specs.Call.{Lent, Left, Answer, Call, accepted, refused, size, circuit_of, asked, checked, part, LoopShown, Promises}
+use Rattle.call.specs.Call.{Lent, Left, Answer, Call, refused, size, circuit_of, asked, checked, part, LoopShown, Promises}
 use Rattle.call.proofs.Parts.{table_checked}
 use Rattle.call.proofs.Contents.{passed_refused, found_once}
 
@@ -62,18 +62,18 @@ module _ (call : Call) (l : Lent) (e : Left) where
   -- where one of grounds 1 to 10 is found, the answer is that one, at its place, be there a loop or not
   pub early_told : (number place : ℕ) → Finds (checked call l) number place → (a : Answer) → Promises call l e a
       → (g : Ground) × (a ≡ refused g place) × (ground_number g ≡ number)
-  early_told number place found (accepted k) p = passed_refused (checked call l) _ _ p.past.passed found
-  early_told number place found (refused g i) (inl p) =
-      let (n, here) = found_once (checked call l) _ _ _ _ p.first found in (g, ap (refused g) here, n)
-  early_told number place found (refused g i) (inr (inl (is, p))) =
+  early_told number place found (Ok k) p = passed_refused (checked call l) _ _ p.past.passed found
+  early_told number place found (Err r) (inl p) =
+      let (n, here) = found_once (checked call l) _ _ _ _ p.first found in (r.reason, ap (refused r.reason) here, n)
+  early_told number place found (Err r) (inr (inl (is, p))) =
       passed_refused (checked call l) _ _ p.passed found
-  early_told number place found (refused g i) (inr (inr p)) =
+  early_told number place found (Err r) (inr (inr p)) =
       passed_refused (checked call l) _ _ p.past.passed found
 
   -- where none of grounds 1 to 10 holds and there is a loop, the answer is ground 11, whatever is checked later
-  pub loop_told : checked call l ≡ Passed → (row : List ℕ) → Loop (graph (circuit_of l)) row → (a : Answer)
+  pub loop_told : checked call l ≡ passed → (row : List ℕ) → Loop (graph (circuit_of l)) row → (a : Answer)
       → Promises call l e a → (g : Ground) × (place : ℕ) × (a ≡ refused g place) × (ground_number g ≡ 11)
-  loop_told passed row loop (accepted k) p = absurd (p.past.no_loop row loop)
-  loop_told passed row loop (refused g place) (inl p) = passed_refused (checked call l) _ _ passed p.first
-  loop_told passed row loop (refused g place) (inr (inl (is, p))) = (g, place, refl, is)
-  loop_told passed row loop (refused g place) (inr (inr p)) = absurd (p.past.no_loop row loop)
+  loop_told ok row loop (Ok k) p = absurd (p.past.no_loop row loop)
+  loop_told ok row loop (Err r) (inl p) = passed_refused (checked call l) _ _ ok p.first
+  loop_told ok row loop (Err r) (inr (inl (is, p))) = (r.reason, r.place, refl, is)
+  loop_told ok row loop (Err r) (inr (inr p)) = absurd (p.past.no_loop row loop)

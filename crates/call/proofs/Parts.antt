@@ -8,24 +8,26 @@ use Prim.Native.Nat.{ℕ, ◌+◌, ◌-◌, ◌≤◌}
 use native.Mathlib.Nat.{mul-le-mul_left, mul-one}
 use native.Mathlib.Omega.{arith}
 use lib.ListN.{length, drop, replicate}
-use Rattle.circuit.specs.declared.refusal.Ground.{Ground}
+use Rattle.std.specs.Prelude.{Err}
+use Rattle.circuit.specs.declared.refusal.Refusal.{Refusal}
+use Rattle.circuit.specs.Refusal.{ground_number}
 use Rattle.circuit.specs.declared.refusal.Ground.TheVariants as grounds
-use Rattle.circuit.specs.declared.refusal.Check.TheVariants.{Passed, Refused}
+use Rattle.circuit.specs.Refusal as check
 use Rattle.circuit.specs.Checks.{Checked}
 use Rattle.circuit.proofs.Passing.{AllLent, call_checked, call_outputs, call_scratch}
 use Rattle.circuit.proofs.Places.{refused_finds}
 use Rattle.circuit.proofs.Tables.{circuit_length}
 use Rattle.schedule.specs.Schedule.{IsOrder, IsLoop}
 use Rattle.schedule.proofs.Orders.{ordered_no_loop, order_past}
-use Rattle.call.specs.Call.{Lent, Left, Call, refused, size, circuit_of, asked, checked, part, PastEleven, Promises}
+use Rattle.call.specs.Call.{Lent, Left, Call, size, circuit_of, asked, checked, part, PastEleven, Promises}
 
 module _ (call : Call) (l : Lent) where
   -- a refusal on one of grounds 1 to 10, of a call that has touched nothing
-  pub turned_down : {g : Ground} {place : ℕ} → checked call l ≡ Refused g place
-      → Promises call l (record { outputs = l.outputs; scratch = l.scratch }) (refused g place)
+  pub turned_down : {r : Refusal} → checked call l ≡ Err r
+      → Promises call l (record { outputs = l.outputs; scratch = l.scratch }) (Err r)
   turned_down e = inl (record { first = refused_finds e; outputs = refl; scratch = refl })
 
-  module _ (ok : checked call l ≡ Passed) where
+  module _ (ok : checked call l ≡ check.passed) where
     pub table_checked : Checked l.table (size l)
     table_checked = call_checked l.table (asked call.asks l.outputs) _ ok
 
@@ -35,13 +37,13 @@ module _ (call : Call) (l : Lent) where
     pub scratch_lent : part call l ≤ length l.scratch
     scratch_lent = call_scratch l.table (asked call.asks l.outputs) _ ok
 
-    -- a loop as the schedule leaves it is one as every call shows it
-    pub loop_shown : {scratch : List ℕ} {place : ℕ}
-        → IsLoop (circuit_of l) (part call l) l.scratch scratch place
-        → Promises call l (record { outputs = l.outputs; scratch = scratch }) (refused grounds.Loop place)
-    loop_shown s =
+    -- a loop as the schedule refuses it and leaves it is one as every call shows it
+    pub loop_shown : {scratch : List ℕ} {r : Refusal}
+        → (r.reason ≡ grounds.Loop) × IsLoop (circuit_of l) (part call l) l.scratch scratch r.place
+        → Promises call l (record { outputs = l.outputs; scratch = scratch }) (Err r)
+    loop_shown (is, s) =
         inr (inl (
-          refl,
+          ap ground_number is,
           record {
             passed = ok;
             row = s.row;

@@ -8,9 +8,9 @@ use mathlib.Core.List.{List}
 use Prim.Native.Nat.{ℕ, ◌*◌, ◌≤◌}
 use borrow.Author.Tests.{le-ltb}
 use lib.ListN.{length}
-use Rattle.circuit.specs.declared.refusal.Check.{Check}
-use Rattle.circuit.specs.Refusal.{ground_number, Finds}
-use Rattle.call.specs.Call.{Lent, Left, Answer, accepted, refused, Call, size, checked, part}
+use Rattle.std.specs.Prelude.{Ok, Err}
+use Rattle.circuit.specs.Refusal.{ground_number, Check, Finds}
+use Rattle.call.specs.Call.{Lent, Left, Answer, Call, size, checked, part}
 use Rattle.call.specs.Call.{scratch_with, scratch_cleared, PastEleven, Promises}
 use Rattle.call.specs.Rooms.{with_room, with_scratch, IgnoresScratch, RefusedLoop, SameButLoop}
 use Rattle.call.proofs.Contents.{BothLoops, contents_fixed}
@@ -34,7 +34,7 @@ module _ (call : Call) (room : ℕ) (l : Lent) (scratch : List ℕ) (enough : pa
   -- an answer and outputs that keep the promise of the one keep that of the other, with some scratch left
   pub promised_in_room : (e : Left) (a : Answer) → Promises call l e a
       → (left : List ℕ) × Promises other l' (record { outputs = e.outputs; scratch = left }) a
-  promised_in_room e (accepted k) p = (
+  promised_in_room e (Ok k) p = (
     scratch_cleared other l',
     record {
       past = same_past p.past;
@@ -42,15 +42,15 @@ module _ (call : Call) (room : ℕ) (l : Lent) (scratch : List ℕ) (enough : pa
       accepts = ignores.accepts e.outputs k p.accepts;
     },
   )
-  promised_in_room e (refused g place) (inl p) = (
+  promised_in_room e (Err r) (inl p) = (
     scratch,
     inl (record {
-      first = subst (λ (check : Check). Finds check (ground_number g) place) same_checked p.first;
+      first = subst (λ (check : Check). Finds check (ground_number r.reason) r.place) same_checked p.first;
       outputs = p.outputs;
       scratch = refl;
     }),
   )
-  promised_in_room e (refused g place) (inr (inl (is, p))) = (
+  promised_in_room e (Err r) (inr (inl (is, p))) = (
     scratch_with other l' p.row,
     inr (inl (
       is,
@@ -65,11 +65,11 @@ module _ (call : Call) (room : ℕ) (l : Lent) (scratch : List ℕ) (enough : pa
       },
     )),
   )
-  promised_in_room e (refused g place) (inr (inr p)) = (
+  promised_in_room e (Err r) (inr (inr p)) = (
     scratch_cleared other l',
     inr (inr (record {
       past = same_past p.past;
-      first = subst (λ (check : Check). Finds check (ground_number g) place) ignores.later p.first;
+      first = subst (λ (check : Check). Finds check (ground_number r.reason) r.place) ignores.later p.first;
       outputs = p.outputs;
     })),
   )

@@ -1,12 +1,11 @@
 -- What a call on a table promises, over what is lent to it, what it leaves there and its answer. A call is given by
 -- what it asks, what it checks after ground 11, and what holds of its outputs where it accepts.
 -- Assumes nothing.
-use Rattle.std.specs.Prelude.{◌≡◌, ◌⊎◌, List, [], ◌∷◌, ◌++◌, ℕ, ◌-◌, ◌*◌, ◌/◌, length, drop, replicate}
+use Rattle.std.specs.Prelude.{◌≡◌, ◌⊎◌, Result, Ok, Err, List, [], ◌∷◌, ◌++◌, ℕ, ◌-◌, ◌*◌, ◌/◌, length, drop, replicate}
 use Rattle.net.specs.Loop.{Loop, LowestFirst}
 use Rattle.circuit.specs.declared.refusal.Ground.{Ground}
-use Rattle.circuit.specs.declared.refusal.Check.{Check}
-use Rattle.circuit.specs.declared.refusal.Check.TheVariants.{Passed}
-use Rattle.circuit.specs.Refusal.{ground_number, Finds}
+use Rattle.circuit.specs.declared.refusal.Refusal.{Refusal}
+use Rattle.circuit.specs.Refusal.{ground_number, Check, passed, Finds}
 use Rattle.circuit.specs.Circuit.{Circuit, circuit, graph, NoLoop}
 use Rattle.circuit.specs.Checks.{Asked, check_call}
 
@@ -22,9 +21,14 @@ pub record Left : Type 0 where
   pub scratch : List ℕ
 
 -- the answer: accepted, with the number that the answer carries (0 where it carries none), or a ground with its place
-pub data Answer : Type 0 where
-  accepted : ℕ → Answer
-  refused : Ground → ℕ → Answer
+abbrev pub Answer : Type 0
+Answer = Result ℕ Refusal
+
+abbrev pub accepted : ℕ → Answer
+accepted k = Ok k
+
+abbrev pub refused : Ground → ℕ → Answer
+refused reason place = Err (record { reason = reason; place = place })
 
 -- a call: how much it asks a record of each output in turn, for ground 3 (of those past the list it asks nothing), and
 -- of its scratch; what it checks after ground 11; what holds of its outputs where it accepts with a number
@@ -89,7 +93,7 @@ module _ (call : Call) (l : Lent) where
   -- none of 1 to 10 holds, and the scratch shows a loop, its lowest variable first; the place is its length; the
   -- outputs are as they were
   pub record LoopShown (e : Left) (place : ℕ) : Type 0 where
-    pub passed : checked ≡ Passed
+    pub passed : checked ≡ passed
     pub row : List ℕ
     pub loop : Loop (graph (circuit_of l)) row
     pub lowest : LowestFirst row
@@ -99,7 +103,7 @@ module _ (call : Call) (l : Lent) where
 
   -- none of 1 to 11 holds, and the scratch's part is 0
   pub record PastEleven (e : Left) : Type 0 where
-    pub passed : checked ≡ Passed
+    pub passed : checked ≡ passed
     pub no_loop : NoLoop (circuit_of l)
     pub scratch : e.scratch ≡ scratch_cleared
 
@@ -113,12 +117,13 @@ module _ (call : Call) (l : Lent) where
   -- no ground holds, and the outputs are what the call says of the number in its answer
   pub record AcceptedWith (e : Left) (k : ℕ) : Type 0 where
     pub past : PastEleven e
-    pub later : call.later l ≡ Passed
+    pub later : call.later l ≡ passed
     pub accepts : call.Accepts l e.outputs k
 
 -- the promise of a call: what holds of what is left, by what is answered
 abbrev pub Promises : Call → Lent → Left → Answer → Type 0
-Promises call l e (accepted k) = AcceptedWith call l e k
-Promises call l e (refused g place) =
-    TurnedDown call l e (ground_number g) place
-    ⊎ (((ground_number g ≡ 11) × LoopShown call l e place) ⊎ RefusedLater call l e (ground_number g) place)
+Promises call l e (Ok k) = AcceptedWith call l e k
+Promises call l e (Err r) =
+    TurnedDown call l e (ground_number r.reason) r.place
+    ⊎ (((ground_number r.reason ≡ 11) × LoopShown call l e r.place)
+    ⊎ RefusedLater call l e (ground_number r.reason) r.place)

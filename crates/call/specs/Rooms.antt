@@ -1,8 +1,8 @@
 -- Calls that differ in nothing but how much scratch they ask, and what two such calls have in common.
 -- Assumes nothing.
-use Rattle.std.specs.Prelude.{◌≡◌, ◌⊎◌, List, ℕ}
+use Rattle.std.specs.Prelude.{◌≡◌, ◌⊎◌, Ok, Err, List, ℕ}
 use Rattle.circuit.specs.Refusal.{ground_number}
-use Rattle.call.specs.Call.{Lent, Left, Answer, accepted, refused, Call}
+use Rattle.call.specs.Call.{Lent, Left, Answer, Call}
 
 -- the call with so many numbers of scratch asked a record
 abbrev pub with_room : ℕ → Call → Call
@@ -20,8 +20,8 @@ pub record IgnoresScratch (call : Call) (l : Lent) (scratch : List ℕ) : Type 0
 
 -- an answer is a refusal on ground 11
 abbrev pub RefusedLoop : Answer → Type 0
-RefusedLoop (accepted k) = ⊥
-RefusedLoop (refused g place) = ground_number g ≡ 11
+RefusedLoop (Ok k) = ⊥
+RefusedLoop (Err r) = ground_number r.reason ≡ 11
 
 -- equal outputs are left, and the answers are equal, or both are ground 11
 pub record SameButLoop (e e' : Left) (a a' : Answer) : Type 0 where

@@ -15,6 +15,7 @@ use Rattle.circuit.proofs.Places.{Refusals, refusal_found, refusals_weaken, grou
 use Rattle.circuit.proofs.Places.{call_refusals, stimuli_refusals}
 use Rattle.circuit.proofs.Tables.{circuit_length}
 use Rattle.fact.specs.Certificate.{registers}
+use Rattle.std.specs.Prelude.{Ok, Err}
 use Rattle.call.specs.Call.{Lent, Left, Answer, accepted, refused, Call, output_of, size, circuit_of, checked}
 use Rattle.call.specs.Call.{AcceptedWith, Promises}
 use Rattle.call.proofs.Parts.{table_checked}
@@ -32,19 +33,20 @@ use Rattle.capi.specs.Packed.{packed, Low, cut}
 
 -- two answers with the same number are the same
 pub packed_told : (a a' : Answer) → Low a → Low a' → packed a ≡ packed a' → a ≡ a'
-packed_told (accepted j) (accepted k) l l' e = ap accepted e
-packed_told (accepted j) (refused g place) l l' e = absurd (omega (arith, (ground_range g).0))
-packed_told (refused g place) (accepted k) l l' e = absurd (omega (arith, (ground_range g).0))
-packed_told (refused g i) (refused h j) l l' e =
-    let same : ground_number g ≡ ground_number h = omega arith in ap₂ refused (ground_told g h same) (omega arith)
+packed_told (Ok j) (Ok k) l l' e = ap accepted e
+packed_told (Ok j) (Err r) l l' e = absurd (omega (arith, (ground_range r.reason).0))
+packed_told (Err r) (Ok k) l l' e = absurd (omega (arith, (ground_range r.reason).0))
+packed_told (Err r) (Err r') l l' e =
+    let same : ground_number r.reason ≡ ground_number r'.reason = omega (arith, ground_range r.reason) in
+    ap₂ refused (ground_told r.reason r'.reason same) (omega arith)
 
 -- an answer fits where the number that it carries does, and the places of what is refused late
 answer_low : (call : Call) (l : Lent) (e : Left) → ((k : ℕ) → AcceptedWith call l e k → k < 2 ^ 32)
     → Refusals (λ g place. place < 2 ^ 32) (call.later l) → (a : Answer) → Promises call l e a → Low a
-answer_low call l e number later (accepted k) p = number k p
-answer_low call l e number later (refused g place) p =
+answer_low call l e number later (Ok k) p = number k p
+answer_low call l e number later (Err r) p =
     refusal_holds call l e (λ h i. i < 2 ^ 32) (λ h i _ most. omega arith)
-    (λ h i _ shown. omega (arith, row_most call l e shown)) later g place p
+    (λ h i _ shown. omega (arith, row_most call l e shown)) later r.reason r.place p
 
 pub certified_low : (l : Lent) (e : Left) (a : Answer) → Promises certifying l e a → Low a
 unfolding registers
@@ -73,8 +75,8 @@ traced_low v l e small =
     (check_marked (circuit_of l) v) (λ g place h. omega (arith, h.1)) (path_refusals v l))
 
 pub billed_low : (sizes entry exit : List ℕ) (a : Answer) → Bills sizes entry exit a → Low a
-billed_low sizes entry exit (accepted k) p = (accepted_small p).2
-billed_low sizes entry exit (refused g place) p = omega (arith, (refused_small p).1)
+billed_low sizes entry exit (Ok k) p = (accepted_small p).2
+billed_low sizes entry exit (Err r) p = omega (arith, (refused_small p).1)
 
 module _ (certificate kept : List ℕ) (l : Lent) (e : Left) where
   -- a trimmed table has no more records than the table
@@ -87,8 +89,8 @@ module _ (certificate kept : List ℕ) (l : Lent) (e : Left) where
       )
 
   pub trimmed_low : (a : Answer) → Promises (trimming certificate kept) l e a → Low (cut a)
-  trimmed_low (accepted k) p = records_low k p
-  trimmed_low (refused g place) p = omega arith
+  trimmed_low (Ok k) p = records_low k p
+  trimmed_low (Err r) p = omega arith
 
   -- where no more than 2^32 variables are kept, every place is below 2^32
   place_low : length kept ≤ 2 ^ 32 → (g : Ground) (place : ℕ)
@@ -109,5 +111,5 @@ module _ (certificate kept : List ℕ) (l : Lent) (e : Left) where
 
   -- so none is cut, and the number tells the answer
   pub trimmed_whole : length kept ≤ 2 ^ 32 → (a : Answer) → Promises (trimming certificate kept) l e a → cut a ≡ a
-  trimmed_whole few (accepted k) p = refl
-  trimmed_whole few (refused g place) p = ap (refused g) (omega (arith, place_low few g place p))
+  trimmed_whole few (Ok k) p = refl
+  trimmed_whole few (Err r) p = ap (refused r.reason) (omega (arith, place_low few r.reason r.place p))

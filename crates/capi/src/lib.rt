@@ -1,93 +1,38 @@
 // The calls under C names, for a static library: the answer is packed into one number. Buffers must not overlap.
 #![tactic(auto)]
 
-ghost use Rattle.std.specs.Prelude.{◌≡◌, ◌-◌, ◌^◌, ◌<◌, min};
-ghost use Rattle.call.specs.Call.{refused, lent, left, Promises};
+ghost use Rattle.std.specs.Prelude.{◌≡◌, ◌-◌, ◌^◌, min};
+ghost use Rattle.call.specs.Call.{lent, left, Promises};
 ghost use Rattle.certificate.specs.Promise as certified;
 ghost use Rattle.machine.specs.Promise as benched;
 ghost use Rattle.bill.specs.Promise as billed;
 ghost use Rattle.trim.specs.Promise as trims;
 ghost use Rattle.path.specs.Promise as traced;
-ghost use Rattle.capi.specs.Packed.{packed, Low, PackedOf, PromisesPacked, cut, CutOf};
+ghost use Rattle.capi.specs.Packed.{packed, Low, PackedOf, PromisesPacked, CutOf};
 
-use bill::{Billed, bill};
-use certificate::{Certified, certify};
-use circuit::refusal::{Ground, ground_number};
-use machine::{Benched, bench};
-use path::{Traced, path};
-use trim::{Trimmed, trim};
+use bill::bill;
+use certificate::certify;
+use circuit::refusal::{Refusal, ground_number};
+use machine::bench;
+use path::path;
+use trim::trim;
 
-// A refusal as one number.
-fn pack_refusal(reason: Ground, place: usize) -> u64
-    requires { place < 2 ^ 32 }
-    ensures { result ≡ packed (refused reason place) }
-{
-    ground_number(reason) * 4294967296 + place as u64
-}
-
-// A certifying call's answer as one number.
-fn pack_certified(answer: Certified) -> u64
-    requires { Low (certified.answer_of answer) }
-    ensures { result ≡ packed (certified.answer_of answer) }
+// An answer as one number.
+fn pack(answer: Result<u64, Refusal>) -> u64
+    requires { Low answer }
+    ensures { result ≡ packed answer }
 {
     match answer {
-        Certified::Accepted(rounds) => rounds as u64,
-        Certified::Refused(reason, place) => pack_refusal(reason, place),
+        Ok(carried) => carried,
+        Err(refusal) => { ground_number(refusal.reason) * 4294967296 + refusal.place as u64 }
     }
 }
 
-// A bench call's answer as one number.
-fn pack_benched(answer: Benched) -> u64
-    requires { Low (benched.answer_of answer) }
-    ensures { result ≡ packed (benched.answer_of answer) }
+// A refusal with its place as 32 bits tell it.
+fn cut(refusal: Refusal) -> Refusal
+    ensures { result ≡ record { reason = refusal.reason; place = min refusal.place (2 ^ 32 - 1) } }
 {
-    match answer {
-        Benched::Accepted => 0,
-        Benched::Refused(reason, place) => pack_refusal(reason, place),
-    }
-}
-
-// A bill's answer as one number.
-fn pack_billed(answer: Billed) -> u64
-    requires { Low (billed.answer_of answer) }
-    ensures { result ≡ packed (billed.answer_of answer) }
-{
-    match answer {
-        Billed::Accepted(cents) => cents as u64,
-        Billed::Refused(reason, place) => pack_refusal(reason, place),
-    }
-}
-
-// A place as 32 bits tell it.
-fn cut_place(place: usize) -> usize
-    ensures { result ≡ min place (2 ^ 32 - 1) }
-{
-    if place < 4294967295 {
-        return place;
-    }
-    4294967295
-}
-
-// A trimming call's answer as one number. Its kept list may be longer than 32 bits can tell.
-fn pack_trimmed(answer: Trimmed) -> u64
-    requires { Low (cut (trims.answer_of answer)) }
-    ensures { result ≡ packed (cut (trims.answer_of answer)) }
-{
-    match answer {
-        Trimmed::Accepted(count) => count as u64,
-        Trimmed::Refused(reason, place) => pack_refusal(reason, cut_place(place)),
-    }
-}
-
-// The path call's answer as one number.
-fn pack_path(answer: Traced) -> u64
-    requires { Low (traced.answer_of answer) }
-    ensures { result ≡ packed (traced.answer_of answer) }
-{
-    match answer {
-        Traced::Accepted(size) => size as u64,
-        Traced::Refused(reason, place) => pack_refusal(reason, place),
-    }
+    refusal.reason.at(refusal.place.min(u32::MAX as usize))
 }
 
 // The certifying call: the number of rounds, or ground * 2^32 + place.
@@ -97,7 +42,7 @@ pub extern "C" fn lambdac_certify(table: &[u8], certificate: &mut [u8], scratch:
         (lent table.now certificate.old scratch.old)
         (left certificate.new scratch.new) result }
 {
-    pack_certified(certify(table, certificate, scratch))
+    pack(certify(table, certificate, scratch).map(u64::from))
 }
 
 // The bench call: 0, or ground * 2^32 + place.
@@ -112,7 +57,7 @@ pub extern "C" fn lambdac_bench(
         (lent table.now values.old scratch.old)
         (left values.new scratch.new) result }
 {
-    pack_benched(bench(table, stimuli, values, scratch))
+    pack(bench(table, stimuli, values, scratch).map(|()| 0))
 }
 
 // The bill of an order: its cents, or ground * 2^32 + place.
@@ -121,7 +66,7 @@ pub extern "C" fn lambdac_bill(sizes: &[u32], shares: &mut [u32]) -> u64
     ensures { PackedOf
         (billed.Bills sizes.now shares.old shares.new) result }
 {
-    pack_billed(bill(sizes, shares))
+    pack(bill(sizes, shares).map(u64::from))
 }
 
 // The trimming call: the number of records written, or ground * 2^32 + place.
@@ -138,7 +83,8 @@ pub extern "C" fn lambdac_trim(
         (trims.lent table.now trimmed.old numbers.old scratch.old)
         (trims.left trimmed.new numbers.new scratch.new)) result }
 {
-    pack_trimmed(trim(table, certificate, kept, trimmed, numbers, scratch))
+    let answer = trim(table, certificate, kept, trimmed, numbers, scratch);
+    pack(answer.map(|count| count as u64).map_err(cut))
 }
 
 // The path call: the row's length, or ground * 2^32 + place.
@@ -153,5 +99,5 @@ pub extern "C" fn lambdac_path(
         (lent table.now row.old scratch.old)
         (left row.new scratch.new) result }
 {
-    pack_path(path(table, variable, row, scratch))
+    pack(path(table, variable, row, scratch).map(|size| size as u64))
 }

@@ -1,7 +1,7 @@
 -- From what the parts of the certifying call give to its promise; and that the promise fixes the certificate.
 -- Assumes nothing.
-use mathlib.Core.Path.{◌≡◌, refl, sym, ap, ap₂, ◌∙◌, subst}
-use mathlib.Core.Logic.{◌⊎◌, ⊎_map}
+use mathlib.Core.Path.{◌≡◌, refl, sym, ap, ◌∙◌, subst}
+use mathlib.Core.Logic.{◌⊎◌}
 use mathlib.Core.List.{List, [], ◌∷◌, ◌++◌, flat_map}
 use Prim.Native.Nat.{ℕ, ◌*◌}
 use native.Mathlib.Omega.{arith}
@@ -10,7 +10,7 @@ use Rattle.net.specs.Net.{list_below, after, stopped, Counts}
 use Rattle.net.proofs.Rounds.{counts_unique}
 use Rattle.buffer.specs.Store.{Holds}
 use Rattle.buffer.proofs.Store.{stands_read, holds_whole}
-use Rattle.circuit.specs.declared.refusal.Check.TheVariants.{Passed}
+use Rattle.circuit.specs.Refusal.{passed}
 use Rattle.circuit.specs.Circuit.{Circuit, graph}
 use Rattle.circuit.proofs.Tables.{Inside, circuit_length, circuit_inside}
 use Rattle.fact.specs.Fact.{fact_bytes, fact_at}
@@ -22,14 +22,12 @@ use Rattle.fact.proofs.Certificate.{least_agree, certificate_least, rounds_count
 use Rattle.schedule.specs.Schedule.{IsOrder}
 use Rattle.engine.specs.Ready.{Ready}
 use Rattle.engine.proofs.Standing.{ordered_ready}
-use Rattle.call.specs.Call.{Lent, Left, lent, left, output_of, size, circuit_of, checked, part, AcceptedWith}
+use Rattle.call.specs.Call.{Lent, Left, Answer, lent, left, output_of, size, circuit_of, checked, part, AcceptedWith}
 use Rattle.call.proofs.Parts.{table_checked, outputs_lent, past_eleven}
 use Rattle.call.proofs.Contents.{BothLoops, contents_fixed}
-use Rattle.certificate.specs.declared.Certified.{Certified}
-use Rattle.certificate.specs.declared.Certified.TheVariants.{Accepted, Refused}
-use Rattle.certificate.specs.Promise.{room, Certificate, certifying, answer_of, Certifies}
+use Rattle.certificate.specs.Promise.{room, Certificate, certifying, Certifies}
 
-module _ (t cells scratch : List ℕ) (ok : checked certifying (lent t cells scratch) ≡ Passed) where
+module _ (t cells scratch : List ℕ) (ok : checked certifying (lent t cells scratch) ≡ passed) where
   abbrev l : Lent
   l = lent t cells scratch
 
@@ -84,16 +82,7 @@ certificate_determined l o o' k k' p q =
           ∙ sym q.certificate,
     )
 
--- an answer is told by what every call has of it
-pub answer_told : (r r' : Certified) → answer_of r ≡ answer_of r' → r ≡ r'
-answer_told (Accepted j) (Accepted k) e = ap Accepted (cc)
-answer_told (Accepted k) (Refused g place) e = let z : ◌≡◌ {A = ℕ} 0 1 = cc in absurd (omega arith)
-answer_told (Refused g place) (Accepted k) e = let z : ◌≡◌ {A = ℕ} 0 1 = cc in absurd (omega arith)
-answer_told (Refused g i) (Refused h j) e = ap₂ Refused (cc) (cc)
-
 -- demand 1: two calls on what is lent alike answer alike and leave the same, but for which loop is shown
-pub certify_fixed : (l : Lent) (e e' : Left) (r r' : Certified) → Certifies l e r → Certifies l e' r'
-    → ((r ≡ r') × (e ≡ e')) ⊎ BothLoops certifying l e e' (answer_of r) (answer_of r')
-certify_fixed l e e' r r' p q =
-    ⊎_map (λ (a, b). (answer_told r r' a, b)) (λ loops. loops)
-    (contents_fixed certifying l (certificate_determined l) e e' (answer_of r) (answer_of r') p q)
+pub certify_fixed : (l : Lent) (e e' : Left) (r r' : Answer) → Certifies l e r → Certifies l e' r'
+    → ((r ≡ r') × (e ≡ e')) ⊎ BothLoops certifying l e e' r r'
+certify_fixed l = contents_fixed certifying l (certificate_determined l)

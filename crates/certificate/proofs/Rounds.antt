@@ -1,67 +1,69 @@
--- The rule of facts as the engine takes it, and the rounds of a table whose wires have an order.
+-- The rounds of a plan's facts: that they go on while the definition's do, where they stop, and what they leave.
 -- Assumes nothing.
 use mathlib.Core.Path.{◌≡◌}
+use mathlib.Core.Bool.{Bool, true, false, not}
 use mathlib.Core.List.{List}
 use Prim.Native.Nat.{ℕ, ◌<◌, ◌≤◌}
 use native.Mathlib.Omega.{arith}
-use lib.ListN.{take}
-use Rattle.net.specs.Net.{after, stopped, Counts}
+use lib.ListN.{length}
+use Rattle.net.specs.Tests.{all_below}
+use Rattle.net.specs.Net.{stopped, Counts}
 use Rattle.net.proofs.Sums.{registers_few}
 use Rattle.buffer.specs.Store.{Layout, Holds}
 use Rattle.buffer.proofs.Store.{stands_read}
-use Rattle.circuit.specs.Circuit.{circuit, graph, NoLoop}
-use Rattle.circuit.specs.Checks.{Checked}
+use Rattle.circuit.specs.Circuit.{graph, NoLoop}
 use Rattle.circuit.proofs.Tables.{Inside, circuit_length, circuit_inside}
 use Rattle.fact.specs.declared.Fact.{Fact}
-use Rattle.fact.specs.Fact.{fact_at}
-use Rattle.fact.specs.Cells.{facts}
+use Rattle.fact.specs.Fact.{same}
 use Rattle.fact.specs.Rule.{rule}
 use Rattle.fact.specs.Certificate.{initial_store, registers, rounds, certificate}
-use Rattle.fact.proofs.Cells.{facts_laws}
-use Rattle.fact.proofs.Certificate.{rules_local, rules_agree, rounds_counted, rounds_few}
+use Rattle.fact.proofs.Order.{same_eq, same_refl}
+use Rattle.fact.proofs.Certificate.{rounds_counted, rounds_few}
 use Rattle.schedule.proofs.Orders.{ordered_no_loop}
-use Rattle.engine.specs.Ready.{Wired}
-use Rattle.engine.proofs.Passes.{Lawful, Gives, gives_read}
+use Rattle.engine.specs.declared.plan.Plan.{Plan}
+use Rattle.engine.specs.Plans.{circuit_of}
+use Rattle.engine.specs.Registers.{stays_at}
+use Rattle.engine.specs.Rules.{read_off}
+use Rattle.engine.proofs.Rounds.{Running, still_running, run_stopped, run_end}
+use Rattle.certificate.specs.Lawful.{lawful}
 
-module _ {t : List ℕ} {n : ℕ} (table : Checked t n) where
-  pub lawful : Lawful t n (rule (circuit t n))
-  lawful =
-      record {
-        local = rules_local (circuit t n);
-        agree = rules_agree (circuit t n) (circuit_inside t n table.valid);
-      }
+module _ (p : Plan) where
+  inside : Inside (circuit_of p)
+  inside = circuit_inside p.table.bytes.now p.table.records p.table.checked.valid
 
-  pub gives_fact : {l : List ℕ} {v : ℕ} {f : Fact} → v < n → f ≡ rule (circuit t n) (fact_at l) v
-      → Gives facts n (rule (circuit t n)) l v f
-  gives_fact {l} = gives_read facts_laws lawful (fact_at l) (λ s p. stands_read p)
+  no_loop : NoLoop (circuit_of p)
+  no_loop = ordered_no_loop (circuit_of p) p.wires.now p.ordered
 
--- wherever facts live
-module _ {L : Layout Fact} {t : List ℕ} {n : ℕ} {scratch : List ℕ} {wires : ℕ} {cells : List ℕ}
-    (w : Wired L t n scratch wires cells) where
-  inside : Inside (circuit t n)
-  inside = circuit_inside t n w.store.table.valid
+  counted : Counts (graph (circuit_of p)) (rule (circuit_of p)) (initial_store (circuit_of p)) (rounds (circuit_of p))
+  counted = rounds_counted (circuit_of p) inside no_loop
 
-  no_loop : NoLoop (circuit t n)
-  no_loop = ordered_no_loop (circuit t n) (take wires scratch) w.order
-
-  pub counted : Counts (graph (circuit t n)) (rule (circuit t n)) (initial_store (circuit t n)) (rounds (circuit t n))
-  counted = rounds_counted (circuit t n) inside no_loop
-
-  pub rounds_small : rounds (circuit t n) ≤ 8192
+  pub rounds_small : rounds (circuit_of p) ≤ 8192
   unfolding registers
   rounds_small =
       omega (
         arith,
-        rounds_few (circuit t n) inside no_loop,
-        registers_few (graph (circuit t n)),
-        circuit_length t n,
-        w.store.table.small,
+        rounds_few (circuit_of p) inside no_loop,
+        registers_few (graph (circuit_of p)),
+        circuit_length p.table.bytes.now p.table.records,
+        p.table.checked.small,
       )
 
--- the store after as many rounds as are counted is the certificate
-pub certificate_holds : {L : Layout Fact} (t : List ℕ) (n : ℕ) {entry exit : List ℕ}
-    → Holds L n
-    (after (graph (circuit t n)) (rule (circuit t n)) (rounds (circuit t n)) (initial_store (circuit t n))) entry exit
-    → Holds L n (certificate (circuit t n)) entry exit
-unfolding certificate stopped rounds
-certificate_holds t n h = h
+  module _ {L : Layout Fact} {entry cells : List ℕ} {count : ℕ}
+      (run : Running L p.table.bytes.now p.table.records (rule (circuit_of p)) (initial_store (circuit_of p)) (rounds (circuit_of p))
+      entry cells count)
+      {changed : Bool}
+      (e : changed ≡ not (all_below (stays_at (circuit_of p) (rule (circuit_of p)) same (read_off L cells))
+      (length p.registers.now))) where
+    -- a round that changes a register is one of those counted
+    pub goes_on : not changed ≡ false → count < rounds (circuit_of p)
+    goes_on q =
+        still_running run (lawful p.table.checked) same_eq same_refl counted (λ s h. stands_read h) (rw p.listed at e) q
+
+    -- one that changes none is the first after them
+    pub stops : not changed ≡ true → count ≡ rounds (circuit_of p)
+    stops q = run_stopped run (lawful p.table.checked) same_eq same_refl counted (λ s h. stands_read h) (rw p.listed at e) q
+
+    -- and the store is the certificate then
+    pub certificate_holds : not changed ≡ true → Holds L p.table.records (certificate (circuit_of p)) entry cells
+    unfolding certificate stopped rounds
+    certificate_holds q = run_end run (stops q)

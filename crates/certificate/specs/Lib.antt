@@ -1,3 +1,4 @@
+pub mod Lawful
 pub mod Staging
 pub mod Promise
 pub mod FourAsked

@@ -4,16 +4,14 @@
 use Rattle.std.specs.Prelude.{◌≡◌, refl, ℕ, ◌*◌, ◌≤◌, drop}
 use mathlib.Core.List.{List, [], ◌∷◌, ◌++◌, flat_map}
 use Rattle.net.specs.Net.{list_below, after, Counts}
-use Rattle.circuit.specs.declared.refusal.Check.TheVariants.{Passed}
+use Rattle.circuit.specs.Refusal.{passed}
 use Rattle.circuit.specs.Circuit.{Circuit, graph}
 use Rattle.circuit.specs.Checks.{check_records}
 use Rattle.fact.specs.Fact.{fact_bytes, fact_at}
 use Rattle.fact.specs.Rule.{rule}
 use Rattle.fact.specs.Certificate.{LeastStore, initial_store, registers}
-use Rattle.call.specs.Call.{Lent, Left, Answer, accepted, refused, Call, output_of, size, circuit_of, Promises}
+use Rattle.call.specs.Call.{Lent, Left, Answer, Call, output_of, size, circuit_of, Promises}
 use Rattle.call.specs.Asks.{found_of}
-use Rattle.certificate.specs.declared.Certified.{Certified}
-use Rattle.certificate.specs.declared.Certified.TheVariants.{Accepted, Refused}
 
 -- what the certifying call asks a record: bytes of the certificate, and 16-bit numbers of scratch
 abbrev pub each : ℕ
@@ -39,16 +37,11 @@ module _ (l : Lent) where
 
 -- the certifying call; ground 11 is its last
 abbrev pub certifying : Call
-certifying = record { asks = each ∷ []; room = room; later = λ l. Passed; Accepts = Certificate }
-
--- its answer as every call has one
-abbrev pub answer_of : Certified → Answer
-answer_of (Accepted k) = accepted k
-answer_of (Refused g place) = refused g place
+certifying = record { asks = each ∷ []; room = room; later = λ l. passed; Accepts = Certificate }
 
 -- the promise: what holds of the buffers and the answer
-abbrev pub Certifies : Lent → Left → Certified → Type 0
-Certifies l e r = Promises certifying l e (answer_of r)
+abbrev pub Certifies : Lent → Left → Answer → Type 0
+Certifies l e r = Promises certifying l e r
 
 -- what it asks, computed: of a table of one record 8 bytes and two numbers, and one less of either is refused
 pub asks_hold : (found_of certifying 7 2 ∷ found_of certifying 8 1 ∷ found_of certifying 8 2 ∷ [])

@@ -3,95 +3,61 @@
 
 ghost use Rattle.std.specs.Prelude.{◌≡◌, ◌++◌, ◌*◌, drop, replicate};
 ghost use Rattle.buffer.specs.Store.{Holds};
-ghost use Rattle.circuit.specs.declared.refusal.Check.TheVariants.{Passed};
-ghost use Rattle.circuit.specs.Powers.{Powers};
-ghost use Rattle.circuit.specs.Circuit.{circuit};
+ghost use Rattle.circuit.specs.Tables.{circuit_of};
 ghost use Rattle.fact.specs.Cells.{facts};
 ghost use Rattle.fact.specs.Certificate as definition;
 ghost use Rattle.engine.specs.Ready.{Ready};
-ghost use Rattle.call.specs.Call.{lent, left, checked};
-ghost use Rattle.certificate.specs.Promise.{room, certifying, Certifies};
+ghost use Rattle.call.specs.Call.{lent, left};
+ghost use Rattle.certificate.specs.Promise.{room, Certifies};
 
-use crate::pass::{settle, write_initial};
-use crate::round::run_rounds;
+use crate::round::write_certificate;
+use crate::store::FactBytes;
 use circuit::checks::check_call;
-use circuit::operator::{PowerTable, power_table};
-use circuit::refusal::{Check, Ground};
-use schedule::{Outcome, clear, schedule};
+use circuit::refusal::Refusal;
+use circuit::table::Table;
+use circuit::width::PowerTable;
+use schedule::{Order, clear, schedule};
 
-pub mod pass;
+pub mod evaluate;
 pub mod round;
+pub mod rule;
+pub mod store;
 
 // What is asked a record of the certificate and of the scratch.
 const EACH: usize = 8;
 
 const ROOM: usize = 2;
 
-// The number of rounds of an accepted table; or the ground on which it is turned down, with its place.
-#[derive(Clone, Copy)]
-pub enum Certified {
-    Accepted(u32),
-    Refused(Ground, usize),
-}
-
 // The certificate of a table whose order stands in the scratch. How many rounds it took.
 fn certify_ordered(
-    t: &[u8],
-    n: usize,
+    table: &Table,
     scratch: &mut [u16],
-    wires: usize,
-    registers: usize,
+    order: Order,
     cells: &mut [u8],
     powers: &PowerTable,
 ) -> u32
-    requires ready { Ready facts room t.now n scratch.old wires registers cells.old }
-    requires powers { Powers powers.now }
-    ensures value { result ≡ definition.rounds (circuit t.now n) }
-    ensures holds { Holds facts n (definition.certificate (circuit t.now n))
+    requires { Ready facts room table.now.bytes.now table.now.records scratch.old order.wires order.registers cells.old }
+    ensures value { result ≡ definition.rounds (circuit_of table.now) }
+    ensures holds { Holds facts table.now.records (definition.certificate (circuit_of table.now))
         cells.old cells.new }
     ensures scratch_after { scratch.new
-        ≡ replicate (n * room) 0 ++ drop (n * room) scratch.old }
+        ≡ replicate (table.now.records * room) 0 ++ drop (table.now.records * room) scratch.old }
 {
-    write_initial(t, n, cells);
-    settle(t, n, scratch, wires, cells, powers);
-    let rounds = run_rounds(t, n, scratch, wires, registers, cells, powers);
-    clear(scratch, 0, n * ROOM);
+    let rounds = write_certificate::<FactBytes>(table, scratch, order, cells, powers);
+    clear(scratch, 0, table.records * ROOM);
     rounds
 }
 
-// The call on a table that meets none of grounds 1 to 10.
-fn certify_checked(
-    t: &[u8],
-    cells: &mut [u8],
-    scratch: &mut [u16],
-    powers: &PowerTable,
-) -> Certified
-    requires scratch_value { checked certifying (lent t.now cells.old scratch.old) ≡ Passed }
-    requires powers { Powers powers.now }
-    ensures { Certifies
-        (lent t.now cells.old scratch.old)
-        (left cells.new scratch.new) result }
-{
-    let n = t.len() / 16;
-    let outcome = schedule(t, n, n * ROOM, scratch);
-    match outcome {
-        Outcome::Loop(size) => Certified::Refused(Ground::Loop, size),
-        Outcome::Order(wires, registers) => {
-            Certified::Accepted(certify_ordered(t, n, scratch, wires, registers, cells, powers))
-        }
-    }
-}
-
-// The certifying call.
-pub fn certify(table: &[u8], certificate: &mut [u8], scratch: &mut [u16]) -> Certified
+// The certifying call: how many rounds an accepted table took.
+pub fn certify(table: &[u8], certificate: &mut [u8], scratch: &mut [u16]) -> Result<u32, Refusal>
     ensures { Certifies
         (lent table.now certificate.old scratch.old)
         (left certificate.new scratch.new) result }
 {
-    let powers = power_table();
-    let check = check_call(table, certificate.len(), EACH, scratch.len(), ROOM, &powers);
-    match check {
-        Check::Refused(reason, place) => Certified::Refused(reason, place),
-        Check::Passed => certify_checked(table, certificate, scratch, &powers),
-    }
+    let powers = PowerTable::new();
+    check_call(table, certificate.len(), EACH, scratch.len(), ROOM, &powers)?;
+    let n = table.len() / 16;
+    let checked = Table::new(table, n);
+    let order = schedule(&checked, n * ROOM, scratch)?;
+    Ok(certify_ordered(&checked, scratch, order, certificate, &powers))
 }

@@ -1,5 +1,6 @@
 // Reads a table from standard input and prints its certificate as text, or with --bytes as 8 bytes a variable; or why
 // it is refused. Only reading and writing is done here; the answer and its text come from the proved library `text`.
+// What the programs have alike stands in each: a library may not name std's files, arguments and errors (.ci/run).
 #![tactic(auto)]
 
 ghost use Rattle.std.specs.Prelude.{◌<◌, ◌≤◌, length, take, IfOk};
@@ -8,9 +9,11 @@ ghost use Rattle.std.specs.Io.KnownBytes.{Consumes, IsAtEnd};
 use std::env::{Env, FillError};
 use std::io;
 use std::io::Read;
-use text::{Report, certify_bytes, certify_text};
+use text::{certify_bytes, certify_text};
 
 // Reads until the buffer is full or the input ends. How many bytes of the buffer were read.
+// (std's `read_exact` does not tell how much of a shorter one was read.)
+#[tactic(auto, using(text::proofs::Reading::read_more))]
 fn read_full<R: Read>(input: &mut R, buf: &mut [u8]) -> io::Result<usize>
     ensures within { IfOk result (λ n. n ≤ length buf.new) }
     ensures read { IfOk result (λ n. Consumes (R.remaining input.old) (R.remaining input.new) (take n buf.new)) }
@@ -62,10 +65,9 @@ fn print_bytes(output: &impl Print, errors: &impl Print, table: &[u8]) {
     let mut certificate = [0u8; 32768];
     let mut scratch = [0u16; 8192];
     let mut line = [0u8; 64];
-    let report = certify_bytes(table, &mut certificate, &mut scratch, &mut line);
-    match report {
-        Report::Bytes(count) => print(output, errors, &certificate[..count]),
-        Report::Line(from) => {
+    match certify_bytes(table, &mut certificate, &mut scratch, &mut line) {
+        Ok(count) => print(output, errors, &certificate[..count]),
+        Err(from) => {
             let _ = errors.write_all(&line[from..]);
         }
     }

@@ -5,7 +5,7 @@ use Rattle.std.proofs.Common.{◌≡◌, ℕ, zero, suc, ◌+◌, ◌-◌, ◌<�
 use native.Mathlib.Nat.{sub-zero}
 use native.Mathlib.Decide.{ℕ_discrete}
 use Rattle.circuit.specs.declared.refusal.Ground.{Ground}
-use Rattle.circuit.specs.declared.refusal.Check.TheVariants.{Passed, Refused}
+use Rattle.circuit.specs.Refusal.{passed, refused}
 use Rattle.circuit.specs.Refusal.{refuse, refuse_first}
 use Rattle.circuit.proofs.Passing.{refuse_passed}
 use Rattle.circuit.proofs.Places.{Refusals, refuse_tested}
@@ -24,11 +24,11 @@ module _ (reason : Ground) (test : ℕ → Bool) where
       unfolding refuse_first
       first_passed h e = rw (steps_left n i h, e)
 
-      pub first_refused : i < n → test i ≡ true → refuse_first reason test (n - i) i ≡ Refused reason i
+      pub first_refused : i < n → test i ≡ true → refuse_first reason test (n - i) i ≡ refused reason i
       unfolding refuse_first
       first_refused h e = rw (steps_left n i h, e)
 
-      pub first_end : n ≤ i → refuse_first reason test (n - i) i ≡ Passed
+      pub first_end : n ≤ i → refuse_first reason test (n - i) i ≡ passed
       unfolding refuse_first
       first_end h = rw none
         where
@@ -38,7 +38,7 @@ module _ (reason : Ground) (test : ℕ → Bool) where
   -- ---- what is found
 
   -- where it passes, no number meets it
-  pub first_known : (count i : ℕ) → refuse_first reason test count i ≡ Passed → (v : ℕ) → i ≤ v → v < i + count
+  pub first_known : (count i : ℕ) → refuse_first reason test count i ≡ passed → (v : ℕ) → i ≤ v → v < i + count
       → test v ≡ false
   unfolding refuse_first
   first_known zero i e v low high = absurd (omega arith)
@@ -51,7 +51,7 @@ module _ (reason : Ground) (test : ℕ → Bool) where
 
   -- where no number meets it, it passes
   pub first_none : (count i : ℕ) → ((v : ℕ) → i ≤ v → v < i + count → test v ≡ false)
-      → refuse_first reason test count i ≡ Passed
+      → refuse_first reason test count i ≡ passed
   unfolding refuse_first
   first_none zero i h = refl
   first_none (suc count) i h =

@@ -6,13 +6,13 @@ use Rattle.net.specs.Net.{list_below}
 use Rattle.net.proofs.Lists.{get_or_list_below}
 use Rattle.circuit.specs.declared.operator.Operator.{Operator}
 use Rattle.circuit.specs.declared.operator.Operator.TheVariants.{ShiftRight}
-use Rattle.circuit.specs.declared.operator.ReadOperator.TheVariants as read-operator
+use Rattle.std.specs.Prelude.{Some, None}
 use Rattle.circuit.specs.declared.record.Kind.{Kind}
 use Rattle.circuit.specs.declared.record.Kind.TheVariants as kind
-use Rattle.circuit.specs.declared.record.ReadKind.TheVariants as read-kind
+use Rattle.std.specs.Prelude.{Some, None}
 use Rattle.circuit.specs.declared.record.InputKind.{InputKind}
 use Rattle.circuit.specs.declared.record.InputKind.TheVariants.{Secret}
-use Rattle.circuit.specs.declared.record.ReadInput.TheVariants as read-input
+use Rattle.std.specs.Prelude.{Some, None}
 use Rattle.circuit.specs.Operator.{operators, operator_of, read_operator}
 use Rattle.circuit.specs.Reading.{kinds, kind_number, read_kind, input_kinds, input_kind_of, read_input}
 
@@ -40,50 +40,50 @@ in_order number l i d e h =
 -- ---- operators
 
 module _ (code : ℕ) where
-  operator_same : (x y : Operator) → read-operator.Is x ≡ read-operator.Is y → x ≡ y
+  operator_same : (x y : Operator) → Some x ≡ Some y → x ≡ y
   operator_same x y e = cc
 
-  operator_differ : (x : Operator) → read-operator.Is x ≡ read-operator.None → ⊥
+  operator_differ : (x : Operator) → Some x ≡ None → ⊥
   operator_differ x e = let z : ◌≡◌ {A = ℕ} 0 1 = cc in omega arith
 
-  pub operator_is : (op : Operator) → read_operator code ≡ read-operator.Is op → (code < 9) × (operator_of code ≡ op)
+  pub operator_is : (op : Operator) → read_operator code ≡ Some op → (code < 9) × (operator_of code ≡ op)
   operator_is op e =
-      lookup_is read-operator.Is read-operator.None operator_same operator_differ operators code ShiftRight op e
+      lookup_is Some None operator_same operator_differ operators code ShiftRight op e
 
-  pub operator_none : read_operator code ≡ read-operator.None → (9 ≤ code) × (operator_of code ≡ ShiftRight)
+  pub operator_none : read_operator code ≡ None → (9 ≤ code) × (operator_of code ≡ ShiftRight)
   operator_none e =
-      lookup_none read-operator.Is read-operator.None operator_same operator_differ operators code ShiftRight e
+      lookup_none Some None operator_same operator_differ operators code ShiftRight e
 
 -- ---- kinds of input
 
 module _ (code n : ℕ) where
-  input_same : (x y : InputKind) → read-input.Is x ≡ read-input.Is y → x ≡ y
+  input_same : (x y : InputKind) → Some x ≡ Some y → x ≡ y
   input_same x y e = cc
 
-  input_differ : (x : InputKind) → read-input.Is x ≡ read-input.None → ⊥
+  input_differ : (x : InputKind) → Some x ≡ None → ⊥
   input_differ x e = let z : ◌≡◌ {A = ℕ} 0 1 = cc in omega arith
 
-  pub input_is : (k : InputKind) → read_input code n ≡ read-input.Is k → (code < 3) × (input_kind_of code n ≡ k)
-  input_is k e = lookup_is read-input.Is read-input.None input_same input_differ (input_kinds n) code Secret k e
+  pub input_is : (k : InputKind) → read_input code n ≡ Some k → (code < 3) × (input_kind_of code n ≡ k)
+  input_is k e = lookup_is Some None input_same input_differ (input_kinds n) code Secret k e
 
-  pub input_none : read_input code n ≡ read-input.None → (3 ≤ code) × (input_kind_of code n ≡ Secret)
-  input_none e = lookup_none read-input.Is read-input.None input_same input_differ (input_kinds n) code Secret e
+  pub input_none : read_input code n ≡ None → (3 ≤ code) × (input_kind_of code n ≡ Secret)
+  input_none e = lookup_none Some None input_same input_differ (input_kinds n) code Secret e
 
 -- ---- kinds
 
 module _ (byte : ℕ) where
-  kind_same : (x y : Kind) → read-kind.Is x ≡ read-kind.Is y → x ≡ y
+  kind_same : (x y : Kind) → Some x ≡ Some y → x ≡ y
   kind_same x y e = cc
 
-  kind_differ : (x : Kind) → read-kind.Is x ≡ read-kind.None → ⊥
+  kind_differ : (x : Kind) → Some x ≡ None → ⊥
   kind_differ x e = let z : ◌≡◌ {A = ℕ} 0 1 = cc in omega arith
 
-  pub kind_none : read_kind byte ≡ read-kind.None → 6 ≤ byte
-  kind_none e = (lookup_none read-kind.Is read-kind.None kind_same kind_differ kinds byte kind.Enabled e).0
+  pub kind_none : read_kind byte ≡ None → 6 ≤ byte
+  kind_none e = (lookup_none Some None kind_same kind_differ kinds byte kind.Enabled e).0
 
-pub kind_is : (byte : ℕ) (k : Kind) → read_kind byte ≡ read-kind.Is k → (byte ≤ 5) × (kind_number k ≡ byte)
+pub kind_is : (byte : ℕ) (k : Kind) → read_kind byte ≡ Some k → (byte ≤ 5) × (kind_number k ≡ byte)
 unfolding list_below
 kind_is byte k e =
     let (h, q) =
-    lookup_is read-kind.Is read-kind.None (kind_same byte) (kind_differ byte) kinds byte kind.Enabled k e in
+    lookup_is Some None (kind_same byte) (kind_differ byte) kinds byte kind.Enabled k e in
     (omega arith, ap kind_number (sym q) ∙ in_order kind_number kinds byte kind.Enabled refl h)

@@ -8,18 +8,18 @@ use Rattle.net.specs.declared.Stimulus.TheVariants.{Poke, Tick}
 use Rattle.net.specs.Tests.{every}
 use Rattle.net.specs.Net.{list_below}
 use Rattle.circuit.specs.declared.operator.Operator.TheVariants.{ShiftRight}
-use Rattle.circuit.specs.declared.operator.ReadOperator.TheVariants as read-operator
+use Rattle.std.specs.Prelude.{Some}
 use Rattle.circuit.specs.declared.record.Fields.{Fields}
 use Rattle.circuit.specs.declared.record.Kind.{Kind}
 use Rattle.circuit.specs.declared.record.Kind.TheVariants as kind
-use Rattle.circuit.specs.declared.record.ReadKind.TheVariants as read-kind
+use Rattle.std.specs.Prelude.{Some}
 use Rattle.circuit.specs.declared.record.InputKind.{InputKind}
 use Rattle.circuit.specs.declared.record.InputKind.TheVariants.{Fixed, Free, Secret}
-use Rattle.circuit.specs.declared.record.ReadInput.TheVariants as read-input
+use Rattle.std.specs.Prelude.{Some}
 use Rattle.circuit.specs.declared.record.Record.{Record}
 use Rattle.circuit.specs.declared.record.Record.TheVariants.{Input}
-use Rattle.circuit.specs.declared.record.ReadRecord.TheVariants as read-record
-use Rattle.circuit.specs.declared.stimulus.ReadStimulus.TheVariants as read-stimulus
+use Rattle.std.specs.Prelude.{Ok}
+use Rattle.std.specs.Prelude.{Ok}
 use Rattle.circuit.specs.Number.{u16_at, u32_at}
 use Rattle.circuit.specs.Operator.{operator_code, operators, operator_of, read_operator}
 use Rattle.circuit.specs.Reading.{kind_number, read_kind, input_code, input_kind_of, read_input, decode, encode, unused, read_record}
@@ -37,7 +37,7 @@ abbrev pub ReadBy : {A B : Type 0} → (ℕ → B) → (A → B) → (A → ℕ)
 ReadBy {A} read is number =
     (byte : ℕ) (x : A) → (read byte ≡ is x → byte ≡ number x) × (byte ≡ number x → read byte ≡ is x)
 
-number_kind : (k : Kind) → read_kind (kind_number k) ≡ read-kind.Is k
+number_kind : (k : Kind) → read_kind (kind_number k) ≡ Some k
 number_kind kind.Input = refl
 number_kind kind.Constant = refl
 number_kind kind.Operator = refl
@@ -45,14 +45,14 @@ number_kind kind.Multiplexer = refl
 number_kind kind.Register = refl
 number_kind kind.Enabled = refl
 
-pub kind_read : ReadBy read_kind read-kind.Is kind_number
+pub kind_read : ReadBy read_kind Some kind_number
 kind_read byte k = (λ e. sym (kind_is byte k e).1, λ e. rw e (number_kind k))
 
 operator_at : (code : ℕ) → code < 9 → operator_code (operator_of code) ≡ code
 unfolding list_below
 operator_at code h = in_order operator_code operators code ShiftRight refl h
 
-pub operator_read : ReadBy read_operator read-operator.Is operator_code
+pub operator_read : ReadBy read_operator Some operator_code
 operator_read code op = (
   λ e. let (h, is) = operator_is code op e in sym (operator_at code h) ∙ ap operator_code is,
   λ e. rw e (code_reads op),
@@ -70,15 +70,15 @@ input_at (suc zero) n h = (refl, tt)
 input_at (suc (suc zero)) n h = (refl, tt)
 input_at (suc (suc (suc code))) n h = absurd (omega arith)
 
-code_input : (k : InputKind) (n : ℕ) → Carries k n → read_input (input_code k) n ≡ read-input.Is k
+code_input : (k : InputKind) (n : ℕ) → Carries k n → read_input (input_code k) n ≡ Some k
 code_input (Fixed m) n e = rw e
 code_input Free n e = refl
 code_input Secret n e = refl
 
 -- byte 2 and the value read as a kind of input exactly where the byte is its code, and a fixed one carries the value
 pub input_read : (code n : ℕ) (k : InputKind)
-    → (read_input code n ≡ read-input.Is k → (code ≡ input_code k) × Carries k n)
-    × ((code ≡ input_code k) × Carries k n → read_input code n ≡ read-input.Is k)
+    → (read_input code n ≡ Some k → (code ≡ input_code k) × Carries k n)
+    × ((code ≡ input_code k) × Carries k n → read_input code n ≡ Some k)
 input_read code n k = (
   λ e.
       let (h, is) = input_is code n k e in
@@ -170,8 +170,8 @@ module _ (f : Fields) (n : ℕ) (v : Valid f n) where
 
 -- fields read as a record exactly where they are its numbers and no ground from 5 to 10 holds of them
 pub record_read : (f : Fields) (n : ℕ) (r : Record)
-    → (read_record f n ≡ read-record.Read r → (f ≡ encode r) × Valid f n)
-    × ((f ≡ encode r) × Valid f n → read_record f n ≡ read-record.Read r)
+    → (read_record f n ≡ Ok r → (f ≡ encode r) × Valid f n)
+    × ((f ≡ encode r) × Valid f n → read_record f n ≡ Ok r)
 record_read f n r = (
   λ e. let (v, is) = read_valid f n r e in (rw is (fields_encoded f n v), v),
   λ e.
@@ -188,7 +188,7 @@ pub record StimulusNumbers (s : List ℕ) (at : ℕ) (x : Stimulus) : Type 0 whe
   pub variable : u16_at s (at + 2) ≡ stimulus_variable x
   pub value : u32_at s (at + 4) ≡ stimulus_value x
 
-good_read : (bad : Bool) (x y : Stimulus) → read_from bad y ≡ read-stimulus.Read x → (bad ≡ false) × (x ≡ y)
+good_read : (bad : Bool) (x y : Stimulus) → read_from bad y ≡ Ok x → (bad ≡ false) × (x ≡ y)
 good_read true x y e = absurd (let z : ◌≡◌ {A = ℕ} 0 1 = cc in omega arith)
 good_read false x y e = (refl, cc)
 
@@ -196,7 +196,7 @@ module _ (byte1 v y : ℕ) (x : Stimulus) where
   -- a stimulus of these numbers is read, of which ground 14 does not hold
   abbrev ReadOf : ℕ → Type 0
   ReadOf kind =
-      read_from (bad_numbers kind byte1 v y) (stimulus_of kind v y) ≡ read-stimulus.Read x
+      read_from (bad_numbers kind byte1 v y) (stimulus_of kind v y) ≡ Ok x
 
   abbrev NumbersOf : ℕ → Type 0
   NumbersOf kind = (kind ≡ stimulus_kind x) × (byte1 ≡ 0) × (v ≡ stimulus_variable x) × (y ≡ stimulus_value x)
@@ -223,8 +223,8 @@ numbers_read kind byte1 v y Tick (e, e1, ev, ey) = rw (e, e1, ev, ey)
 
 -- 8 bytes read as a stimulus exactly where they are its numbers
 pub stimulus_read : (s : List ℕ) (at : ℕ) (x : Stimulus)
-    → (read_stimulus s at ≡ read-stimulus.Read x → StimulusNumbers s at x)
-    × (StimulusNumbers s at x → read_stimulus s at ≡ read-stimulus.Read x)
+    → (read_stimulus s at ≡ Ok x → StimulusNumbers s at x)
+    × (StimulusNumbers s at x → read_stimulus s at ≡ Ok x)
 stimulus_read s at x = (
   λ e.
       let (kind, byte1, variable, value) =

@@ -9,7 +9,7 @@ use Rattle.net.proofs.Cases.{by_same}
 use Rattle.circuit.specs.declared.record.Fields.{Fields}
 use Rattle.circuit.specs.declared.record.Record.{Record}
 use Rattle.circuit.specs.declared.record.Record.TheVariants.{Constant, Operator, Multiplexer, Register, Enabled}
-use Rattle.circuit.specs.declared.refusal.Check.TheVariants.{Passed}
+use Rattle.circuit.specs.Refusal.{passed}
 use Rattle.circuit.specs.Operator.{operator_of}
 use Rattle.circuit.specs.Record.{width, uses, role}
 use Rattle.circuit.specs.Reading.{fields_at, decode}
@@ -24,7 +24,7 @@ module _ (t : List ℕ) (n v : ℕ) (h : v < n) (r : Record) (e : r ≡ decode (
   pub record_here : (x : Record) → r ≡ x → record_of (circuit t n) v ≡ x
   record_here x q = circuit_record t n v h ∙ sym e ∙ q
 
-  module _ (ok : check_records t n ≡ Passed) where
+  module _ (ok : check_records t n ≡ passed) where
     pub width_here : (x : Record) → r ≡ x → width x ≤ 32
     width_here x q =
         subst (λ (y : Record). width y ≤ 32) (sym e ∙ q)
@@ -68,7 +68,7 @@ module _ (t : List ℕ) (n v : ℕ) where
     initial_here e =
         ap initial (circuit_record t n v h) ∙ register_initial f (rw (circuit_record t n v h) at e)
 
-    module _ (ok : check_records t n ≡ Passed) where
+    module _ (ok : check_records t n ≡ passed) where
       used : (x : Record) → here ≡ x → (u : ℕ) → T (member u (uses x)) → u < n
       used x q u m =
           record_uses t n ok v h u (subst (λ (y : Record). T (member u (uses y))) (sym q ∙ circuit_record t n v h) m)

@@ -4,14 +4,14 @@ use Rattle.std.proofs.Common.{◌≡◌, ℕ, ◌+◌, ◌-◌, ◌*◌, ◌/◌
 use native.Mathlib.Nat.{mod-add-mod, add-mod_right, add-mul-mod_self_right}
 use lib.Pow.{mod-mod-pow}
 use Rattle.circuit.specs.declared.operator.Operator.{Operator}
-use Rattle.circuit.specs.declared.operator.ReadOperator.{ReadOperator}
-use Rattle.circuit.specs.declared.operator.ReadOperator.TheVariants.{Is}
+use Rattle.std.specs.Prelude.{Option}
+use Rattle.std.specs.Prelude.{Some}
 use Rattle.circuit.specs.declared.operator.Operator.TheVariants.{Add, Sub, And, Or, Xor, Equal, Less, ShiftLeft, ShiftRight}
 use Rattle.circuit.specs.Operator.{operator_code, operator_of, read_operator, apply, result, result_of, result_of_code}
 use Rattle.circuit.proofs.Lookups.{operator_is}
 
 -- an operator's code reads as that operator
-pub code_reads : (op : Operator) → read_operator (operator_code op) ≡ Is op
+pub code_reads : (op : Operator) → read_operator (operator_code op) ≡ Some op
 code_reads Add = refl
 code_reads Sub = refl
 code_reads And = refl
@@ -63,7 +63,7 @@ sub_unique w a b r e =
 
 -- evaluating by an operator's code gives the operator's result
 pub result_of_code_lem : (op : Operator) (w a b : ℕ) → result_of_code (operator_code op) w a b ≡ result op w a b
-result_of_code_lem op w a b = ap (λ (r : ReadOperator). result_of r w a b) (code_reads op)
+result_of_code_lem op w a b = ap (λ (r : Option Operator). result_of r w a b) (code_reads op)
 
 -- ---- what 32 bits hold, at every width
 

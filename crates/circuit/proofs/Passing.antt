@@ -1,41 +1,42 @@
 -- Checks that are put in order: which decides, and what holds where all pass, the lengths that grounds 1 to 4 speak
 -- of among it.
 -- Assumes nothing.
+use Rattle.circuit.specs.declared.refusal.Refusal.{Refusal}
 use Rattle.std.proofs.Common.{◌≡◌, ℕ, ◌*◌, ◌/◌, ◌≤◌, Bool, true, false, ltb, List, [], ◌∷◌, length, sym, refl, ap, ◌∙◌, mul-zero, arith, ltb-false}
 use Rattle.circuit.specs.declared.refusal.Ground.{Ground}
 use Rattle.circuit.specs.declared.refusal.Ground.TheVariants.{TableTooLong, OutputShort, ScratchShort}
-use Rattle.circuit.specs.declared.refusal.Check.{Check}
-use Rattle.circuit.specs.declared.refusal.Check.TheVariants.{Passed, Refused}
+use Rattle.circuit.specs.Refusal.{Check}
+use Rattle.std.specs.Prelude.{Ok, Err}
+use Rattle.circuit.specs.Refusal.{passed}
 use Rattle.circuit.specs.Refusal.{refuse, ◌then◌}
 use Rattle.circuit.specs.Checks.{check_length, check_output, check_scratch, check_records, Checked, Asked, check_outputs, check_call}
 
 -- two checks pass where each does
-pub then_passed : (a b : Check) → (a then b) ≡ Passed → (a ≡ Passed) × (b ≡ Passed)
-then_passed Passed b e = (refl, e)
-then_passed (Refused reason place) b e = absurd (let z : ◌≡◌ {A = ℕ} 0 1 = cc in omega arith)
+pub then_passed : (a b : Check) → (a then b) ≡ passed → (a ≡ passed) × (b ≡ passed)
+then_passed (Ok u) b e = (refl, e)
+then_passed (Err r) b e = absurd (let z : ◌≡◌ {A = ℕ} 0 1 = cc in omega arith)
 
 -- a test that does not refuse fails, and what is tried next passes
-pub refuse_passed : (reason : Ground) (place : ℕ) (b : Bool) (next : Check) → refuse reason place b next ≡ Passed
-    → (b ≡ false) × (next ≡ Passed)
+pub refuse_passed : (reason : Ground) (place : ℕ) (b : Bool) (next : Check) → refuse reason place b next ≡ passed
+    → (b ≡ false) × (next ≡ passed)
 refuse_passed reason place true next e = absurd (let z : ◌≡◌ {A = ℕ} 0 1 = cc in omega arith)
 refuse_passed reason place false next e = (refl, e)
 
-pub length_most : (bytes : ℕ) → check_length bytes ≡ Passed → bytes ≤ 65536
+pub length_most : (bytes : ℕ) → check_length bytes ≡ passed → bytes ≤ 65536
 length_most bytes e = ltb-false 65536 bytes (refuse_passed TableTooLong 0 (ltb 65536 bytes) _ e).0
 
-output_lent : (lent asked : ℕ) → check_output lent asked ≡ Passed → asked ≤ lent
-output_lent lent asked e = ltb-false lent asked (refuse_passed OutputShort 0 (ltb lent asked) Passed e).0
+output_lent : (lent asked : ℕ) → check_output lent asked ≡ passed → asked ≤ lent
+output_lent lent asked e = ltb-false lent asked (refuse_passed OutputShort 0 (ltb lent asked) passed e).0
 
-scratch_lent : (lent asked : ℕ) → check_scratch lent asked ≡ Passed → asked ≤ lent
-scratch_lent lent asked e = ltb-false lent asked (refuse_passed ScratchShort 0 (ltb lent asked) Passed e).0
+scratch_lent : (lent asked : ℕ) → check_scratch lent asked ≡ passed → asked ≤ lent
+scratch_lent lent asked e = ltb-false lent asked (refuse_passed ScratchShort 0 (ltb lent asked) passed e).0
 
 -- a check that refuses decides, whatever is tried next
-pub check_stops : (x a rest : Check) (g : Ground) (place : ℕ) → x ≡ a → x ≡ Refused g place
-    → Refused g place ≡ (a then rest)
-check_stops x a rest g place e q = sym (ap (λ (y : Check). y then rest) (sym e ∙ q))
+pub check_stops : (x a rest : Check) (r : Refusal) → x ≡ a → x ≡ Err r → Err r ≡ (a then rest)
+check_stops x a rest r e q = sym (ap (λ (y : Check). y then rest) (sym e ∙ q))
 
 -- a check that passes leaves it to what is tried next
-pub check_goes_on : (x a rest : Check) → x ≡ a → x ≡ Passed → (a then rest) ≡ rest
+pub check_goes_on : (x a rest : Check) → x ≡ a → x ≡ passed → (a then rest) ≡ rest
 check_goes_on x a rest e q = ap (λ (y : Check). y then rest) (sym e ∙ q)
 
 -- an output of which nothing is asked is as none
@@ -48,8 +49,8 @@ abbrev pub AllLent : ℕ → List Asked → Type 0
 AllLent n [] = Unit {0}
 AllLent n (o ∷ os) = (n * o.each ≤ o.lent) × AllLent n os
 
-outputs_passed : (n : ℕ) (outputs : List Asked) (next : Check) → check_outputs n outputs next ≡ Passed
-    → AllLent n outputs × (next ≡ Passed)
+outputs_passed : (n : ℕ) (outputs : List Asked) (next : Check) → check_outputs n outputs next ≡ passed
+    → AllLent n outputs × (next ≡ passed)
 outputs_passed n [] next e = (tt, e)
 outputs_passed n (o ∷ os) next e =
     let (here, later) = then_passed (check_output o.lent (n * o.each)) _ e in
@@ -57,15 +58,15 @@ outputs_passed n (o ∷ os) next e =
     ((output_lent o.lent (n * o.each) here, rest), last)
 
 -- what none of grounds 1 to 10 leaves to a call on a table
-module _ (t : List ℕ) (outputs : List Asked) (scratch : Asked) (ok : check_call t outputs scratch ≡ Passed) where
+module _ (t : List ℕ) (outputs : List Asked) (scratch : Asked) (ok : check_call t outputs scratch ≡ passed) where
   abbrev rest : Check
   rest = check_scratch scratch.lent (length t / 16 * scratch.each) then check_records t (length t / 16)
 
-  lengths : (check_length (length t) ≡ Passed) × (check_outputs (length t / 16) outputs rest ≡ Passed)
+  lengths : (check_length (length t) ≡ passed) × (check_outputs (length t / 16) outputs rest ≡ passed)
   lengths = then_passed (check_length (length t)) _ ok
 
-  last : (check_scratch scratch.lent (length t / 16 * scratch.each) ≡ Passed)
-      × (check_records t (length t / 16) ≡ Passed)
+  last : (check_scratch scratch.lent (length t / 16 * scratch.each) ≡ passed)
+      × (check_records t (length t / 16) ≡ passed)
   last = then_passed (check_scratch scratch.lent _) _ (outputs_passed _ outputs rest lengths.1).1
 
   pub call_checked : Checked t (length t / 16)

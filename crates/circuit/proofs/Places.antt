@@ -9,13 +9,14 @@ use Rattle.net.specs.declared.Stimulus.TheVariants.{Poke, Tick}
 use Rattle.circuit.specs.declared.refusal.Ground.{Ground}
 use Rattle.circuit.specs.declared.refusal.Ground.TheVariants.{TableTooLong, TableNotWhole, OutputShort, ScratchShort, UnknownKind, BadWidth, UnknownCode, UnusedNotZero, NoSuchVariable, ValueTooWide, Loop, StimuliNotWhole, TooManyStimuli, BadStimulus, NotAnInput, PokeTooWide, FixedInput, TooManySizes, SizeTooLarge}
 use Rattle.circuit.specs.declared.refusal.Ground.TheVariants.{NoSuchKept, TrimmedShort, BadCertificate, NotMarked, ForeignCertificate}
-use Rattle.circuit.specs.declared.refusal.Check.{Check}
-use Rattle.circuit.specs.declared.refusal.Check.TheVariants as check
+use Rattle.circuit.specs.Refusal.{Check}
+use Rattle.std.specs.Prelude.{Ok, Err}
+use Rattle.circuit.specs.Refusal.{passed, refused}
 use Rattle.circuit.specs.declared.record.Fields.{Fields}
-use Rattle.circuit.specs.declared.record.ReadRecord.TheVariants.{Read}
+use Rattle.std.specs.Prelude.{Ok, Err}
 use Rattle.circuit.specs.declared.record.Record.{Record}
-use Rattle.circuit.specs.declared.stimulus.ReadStimulus.{ReadStimulus}
-use Rattle.circuit.specs.declared.stimulus.ReadStimulus.TheVariants as stimulus
+use Rattle.std.specs.Prelude.{Result}
+use Rattle.std.specs.Prelude.{Ok, Err}
 use Rattle.circuit.specs.Refusal.{ground_number, refuse, Finds, ◌then◌}
 use Rattle.circuit.specs.Record.{width, uses, input_of}
 use Rattle.circuit.specs.Reading.{fields_at, decode, codes, unused, refuse_record, read_record}
@@ -92,21 +93,21 @@ pub ground_told : (g h : Ground) → ground_number g ≡ ground_number h → g �
 ground_told g h e = sym (ground_number_lem g).0 ∙ ap numbered e ∙ (ground_number_lem h).0
 
 -- what a check finds by its number is what it is refused on
-pub refused_finds : {c : Check} {reason : Ground} {place : ℕ} → c ≡ check.Refused reason place
+pub refused_finds : {c : Check} {reason : Ground} {place : ℕ} → c ≡ refused reason place
     → Finds c (ground_number reason) place
 refused_finds e = rw e (refl, refl)
 
 finds_refused : (c : Check) (reason : Ground) (place : ℕ) → Finds c (ground_number reason) place
-    → c ≡ check.Refused reason place
-finds_refused check.Passed reason place f = absurd f
-finds_refused (check.Refused other at) reason place f = ap₂ check.Refused (ground_told other reason f.0) f.1
+    → c ≡ refused reason place
+finds_refused (Ok u) reason place f = absurd f
+finds_refused (Err r) reason place f = ap₂ refused (ground_told r.reason reason f.0) f.1
 
 -- ---- the ground and the place of a refusal
 
 -- what P says of a ground and a place holds of a check's refusal, if it is one
 abbrev pub Refusals : (Ground → ℕ → Type 0) → Check → Type 0
-Refusals P check.Passed = Unit {0}
-Refusals P (check.Refused reason place) = P reason place
+Refusals P (Ok u) = Unit {0}
+Refusals P (Err r) = P r.reason r.place
 
 -- so it holds of what the check finds
 pub refusal_found : (P : Ground → ℕ → Type 0) (c : Check) (reason : Ground) (place : ℕ) → Refusals P c
@@ -115,14 +116,14 @@ refusal_found P c reason place h f = subst (λ (x : Check). Refusals P x) (finds
 
 pub refusals_weaken : (P Q : Ground → ℕ → Type 0) (c : Check)
     → ((reason : Ground) (place : ℕ) → P reason place → Q reason place) → Refusals P c → Refusals Q c
-refusals_weaken P Q check.Passed w h = tt
-refusals_weaken P Q (check.Refused reason place) w h = w reason place h
+refusals_weaken P Q (Ok u) w h = tt
+refusals_weaken P Q (Err r) w h = w r.reason r.place h
 
 module _ (P : Ground → ℕ → Type 0) where
   -- the first refusal of two checks is that of one of them, of the second only where the first passes
-  pub then_refusals : (a b : Check) → Refusals P a → (a ≡ check.Passed → Refusals P b) → Refusals P (a then b)
-  then_refusals check.Passed b h k = k refl
-  then_refusals (check.Refused reason place) b h k = h
+  pub then_refusals : (a b : Check) → Refusals P a → (a ≡ passed → Refusals P b) → Refusals P (a then b)
+  then_refusals (Ok u) b h k = k refl
+  then_refusals (Err r) b h k = h
 
   -- the refusal of a test is its own where it holds, else that of what is tried next
   pub refuse_tested : (reason : Ground) (place : ℕ) (b : Bool) (next : Check) → (b ≡ true → P reason place)
@@ -149,7 +150,7 @@ tests_refusals : (b₅ b₆ b₇ b₈ b₉ b₁₀ : Bool) (r : Record) (i end :
     (refuse_record UnknownCode b₇
     (refuse_record UnusedNotZero b₈
     (refuse_record NoSuchVariable b₉
-    (refuse_record ValueTooWide b₁₀ (Read r))))))) i)
+    (refuse_record ValueTooWide b₁₀ (Ok r))))))) i)
 tests_refusals true b₆ b₇ b₈ b₉ b₁₀ r i end h = (omega arith, h)
 tests_refusals false true b₇ b₈ b₉ b₁₀ r i end h = (omega arith, h)
 tests_refusals false false true b₈ b₉ b₁₀ r i end h = (omega arith, h)
@@ -179,7 +180,7 @@ outputs_refusals : (n end : ℕ) (outputs : List Asked) (next : Check) → Refus
 outputs_refusals n end [] next h = h
 outputs_refusals n end (o ∷ os) next h =
     then_refusals (OfTable end) (check_output o.lent (n * o.each)) _
-    (refuse_refusals (OfTable end) OutputShort 0 (ltb o.lent (n * o.each)) check.Passed (omega arith, omega arith)
+    (refuse_refusals (OfTable end) OutputShort 0 (ltb o.lent (n * o.each)) passed (omega arith, omega arith)
     (λ _. tt))
     (λ _. outputs_refusals n end os next h)
 
@@ -189,14 +190,14 @@ unfolding check_records
 call_refusals t outputs scratch =
     then_refusals (OfTable 4096) (check_length (length t)) _
     (refuse_refusals (OfTable 4096) TableTooLong 0 (ltb 65536 (length t)) _ (omega arith, omega arith)
-    (λ _. refuse_refusals (OfTable 4096) TableNotWhole 0 (not (eqb (length t % 16) 0)) check.Passed
+    (λ _. refuse_refusals (OfTable 4096) TableNotWhole 0 (not (eqb (length t % 16) 0)) passed
     (omega arith, omega arith)
     (λ _. tt)))
     (λ e.
     let bytes : length t ≤ 65536 = length_most (length t) e in
     outputs_refusals (length t / 16) 4096 outputs _
     (then_refusals (OfTable 4096) (check_scratch scratch.lent (length t / 16 * scratch.each)) _
-    (refuse_refusals (OfTable 4096) ScratchShort 0 (ltb scratch.lent (length t / 16 * scratch.each)) check.Passed
+    (refuse_refusals (OfTable 4096) ScratchShort 0 (ltb scratch.lent (length t / 16 * scratch.each)) passed
     (omega arith, omega arith) (λ _. tt))
     (λ _. records_refusals t (length t / 16) (length t / 16) 0 4096 (omega arith))))
 
@@ -208,9 +209,9 @@ OfList end reason place = (12 ≤ ground_number reason) × (place ≤ end)
 
 module _ (P : Ground → ℕ → Type 0) (c : Circuit) (i : ℕ) where
   -- what is said of a value that is too wide for an input which is not fixed to another
-  abbrev OfWide : ReadStimulus → Type 0
+  abbrev OfWide : Result Stimulus Ground → Type 0
   OfWide read =
-      (v x : ℕ) → read ≡ stimulus.Read (Poke v x) → (ltb v (length c) && is_input (input_of (record_of c v))) ≡ true
+      (v x : ℕ) → read ≡ Ok (Poke v x) → (ltb v (length c) && is_input (input_of (record_of c v))) ≡ true
       → fixed_to_other (input_of (record_of c v)) x ≡ false → leb (2 ^ width (record_of c v)) x ≡ true → P PokeTooWide i
 
   -- what holds of grounds 14, 15 and 17, and of 16 where none of these does, holds of a stimulus's refusal
@@ -221,7 +222,7 @@ module _ (P : Ground → ℕ → Type 0) (c : Circuit) (i : ℕ) where
   stimulus_refusals bad other fixed false (Poke v x) wide =
       refuse_refusals P NotAnInput i (not (ltb v (length c) && is_input (input_of (record_of c v)))) _ other
       (λ e15. refuse_refusals P FixedInput i (fixed_to_other (input_of (record_of c v)) x) _ fixed
-      (λ e17. refuse_tested P PokeTooWide i (leb (2 ^ width (record_of c v)) x) check.Passed
+      (λ e17. refuse_tested P PokeTooWide i (leb (2 ^ width (record_of c v)) x) passed
       (λ e16. wide v x refl (not-false _ e15) e17 e16) (λ _. tt)))
 
 module _ (P : Ground → ℕ → Type 0) (c : Circuit) (s : List ℕ) where

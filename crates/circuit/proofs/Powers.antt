@@ -11,5 +11,4 @@ power_at l w = eqb (get_or l w 0) (2 ^ w)
 
 -- where the test passes at every w from 0 to 32, the rule holds at each
 pub powers_hold : (l : List ℕ) → T (all_below (power_at l) 33) → Powers l
-unfolding Powers
 powers_hold l test w most = eqb→eq (get_or l w 0) (2 ^ w) (all_at (power_at l) 33 test w (omega arith))

@@ -10,8 +10,8 @@ use Rattle.circuit.specs.declared.record.Fields.{Fields}
 use Rattle.circuit.specs.declared.record.InputKind.TheVariants.{Fixed, Free, Secret}
 use Rattle.circuit.specs.declared.record.Record.{Record}
 use Rattle.circuit.specs.declared.record.Record.TheVariants.{Input, Constant, Operator, Multiplexer, Register, Enabled}
-use Rattle.circuit.specs.declared.record.ReadRecord.{ReadRecord}
-use Rattle.circuit.specs.declared.record.ReadRecord.TheVariants.{Read, Refused}
+use Rattle.std.specs.Prelude.{Result}
+use Rattle.std.specs.Prelude.{Ok, Err}
 use Rattle.circuit.specs.declared.refusal.Ground.{Ground}
 use Rattle.circuit.specs.declared.refusal.Ground.TheVariants.{UnknownKind, BadWidth, UnknownCode, UnusedNotZero, NoSuchVariable, ValueTooWide}
 use Rattle.circuit.specs.Operator.{operator_code}
@@ -45,8 +45,8 @@ pub record Valid (f : Fields) (n : ℕ) : Type 0 where
   pub value : f.value < 2 ^ f.width
 
 -- a test that does not refuse_record fails, and what is tried next gives the record
-passed : (reason : Ground) (b : Bool) (next : ReadRecord) (r : Record) → refuse_record reason b next ≡ Read r
-    → (b ≡ false) × (next ≡ Read r)
+passed : (reason : Ground) (b : Bool) (next : Result Record Ground) (r : Record) → refuse_record reason b next ≡ Ok r
+    → (b ≡ false) × (next ≡ Ok r)
 passed reason true next r e = absurd (let z : ◌≡◌ {A = ℕ} 0 1 = cc in omega arith)
 passed reason false next r e = (refl, e)
 
@@ -57,10 +57,10 @@ both_false false b e = (refl, e)
 positive : (n : ℕ) → (n ≡ 0 → ⊥) → 1 ≤ n
 positive n some = omega arith
 
-same_record : {x y : Record} → Read x ≡ Read y → x ≡ y
+same_record : {x y : Record} → ◌≡◌ {A = Result Record Ground} (Ok x) (Ok y) → x ≡ y
 same_record e = cc
 
-pub read_valid : (f : Fields) (n : ℕ) (r : Record) → read_record f n ≡ Read r → Valid f n × (r ≡ decode f)
+pub read_valid : (f : Fields) (n : ℕ) (r : Record) → read_record f n ≡ Ok r → Valid f n × (r ≡ decode f)
 unfolding read_record
 read_valid f n r e =
     let p5 = passed UnknownKind (ltb 5 f.kind) _ r e in
@@ -98,43 +98,43 @@ unfolding every
 three_below a b c n h k = rw (h, k) (sym (and-true (ltb c n)))
 
 module _ (f : Fields) (n : ℕ) where
-  pub refused_kind : 6 ≤ f.kind → Refused UnknownKind ≡ read_record f n
+  pub refused_kind : 6 ≤ f.kind → Err UnknownKind ≡ read_record f n
   unfolding read_record
   refused_kind h = rw (lt-ltb 5 f.kind h)
 
   module _ (kind : f.kind ≤ 5) where
-    pub refused_width : (eqb f.width 0 || ltb 32 f.width) ≡ true → Refused BadWidth ≡ read_record f n
+    pub refused_width : (eqb f.width 0 || ltb 32 f.width) ≡ true → Err BadWidth ≡ read_record f n
     unfolding read_record
     refused_width w = rw (le-ltb 5 f.kind kind, w)
 
     module _ (w : (eqb f.width 0 || ltb 32 f.width) ≡ false) where
-      pub refused_code : leb (codes f.kind) f.code ≡ true → Refused UnknownCode ≡ read_record f n
+      pub refused_code : leb (codes f.kind) f.code ≡ true → Err UnknownCode ≡ read_record f n
       unfolding read_record
       refused_code k = rw (le-ltb 5 f.kind kind, w, k)
 
       module _ (k : leb (codes f.kind) f.code ≡ false) where
         pub refused_zeros : every (λ x. eqb x 0) (f.byte3 ∷ f.bytes10 ∷ unused (decode f) f) ≡ false
-            → Refused UnusedNotZero ≡ read_record f n
+            → Err UnusedNotZero ≡ read_record f n
         unfolding read_record
         refused_zeros z = rw (le-ltb 5 f.kind kind, w, k, z)
 
         module _ (z : every (λ x. eqb x 0) (f.byte3 ∷ f.bytes10 ∷ unused (decode f) f) ≡ true) where
           pub refused_variables : every (λ v. ltb v n) (uses (decode f)) ≡ false
-              → Refused NoSuchVariable ≡ read_record f n
+              → Err NoSuchVariable ≡ read_record f n
           unfolding read_record
           refused_variables u = rw (le-ltb 5 f.kind kind, w, k, z, u)
 
           module _ (u : every (λ v. ltb v n) (uses (decode f)) ≡ true) where
-            pub refused_value : leb (2 ^ f.width) f.value ≡ true → Refused ValueTooWide ≡ read_record f n
+            pub refused_value : leb (2 ^ f.width) f.value ≡ true → Err ValueTooWide ≡ read_record f n
             unfolding read_record
             refused_value x = rw (le-ltb 5 f.kind kind, w, k, z, u, x)
 
-            pub accepted : leb (2 ^ f.width) f.value ≡ false → Read (decode f) ≡ read_record f n
+            pub accepted : leb (2 ^ f.width) f.value ≡ false → Ok (decode f) ≡ read_record f n
             unfolding read_record
             accepted x = rw (le-ltb 5 f.kind kind, w, k, z, u, x)
 
 -- fields of which no ground from 5 to 10 holds are read
-pub valid_read : (f : Fields) (n : ℕ) → Valid f n → read_record f n ≡ Read (decode f)
+pub valid_read : (f : Fields) (n : ℕ) → Valid f n → read_record f n ≡ Ok (decode f)
 valid_read f n v =
     sym (accepted f n v.kind
     (rw (ne_eqb f.width 0 (λ e. omega (arith, v.width_least))) (le-ltb 32 f.width v.width_most))

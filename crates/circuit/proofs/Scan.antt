@@ -3,8 +3,9 @@
 use Rattle.std.proofs.Common.{◌≡◌, ℕ, suc, ◌+◌, ◌-◌, ◌*◌, ◌<◌, ◌≤◌, List, arith}
 use native.Mathlib.Nat.{sub-zero}
 use Rattle.circuit.specs.declared.record.Record.{Record}
-use Rattle.circuit.specs.declared.record.ReadRecord.TheVariants.{Read, Refused}
-use Rattle.circuit.specs.declared.refusal.Check.TheVariants as check
+use Rattle.std.specs.Prelude.{Ok, Err}
+use Rattle.std.specs.Prelude.{Ok, Err}
+use Rattle.circuit.specs.Refusal.{passed, refused}
 use Rattle.circuit.specs.declared.refusal.Ground.{Ground}
 use Rattle.circuit.specs.Reading.{fields_at, read_record}
 use Rattle.circuit.specs.Checks.{check_records_from, check_records}
@@ -19,17 +20,17 @@ module _ (t : List ℕ) (n : ℕ) where
   scan_start = rw sub-zero
 
   module _ (i : ℕ) where
-    pub scan_more : i < n → (r : Record) → read_record (fields_at t (i * 16)) n ≡ Read r
+    pub scan_more : i < n → (r : Record) → read_record (fields_at t (i * 16)) n ≡ Ok r
         → check_records_from t n (n - i) i ≡ check_records_from t n (n - (i + 1)) (i + 1)
     unfolding check_records_from
     scan_more h r e = rw (steps_left n i h, e)
 
-    pub scan_refused : i < n → (reason : Ground) → read_record (fields_at t (i * 16)) n ≡ Refused reason
-        → check_records_from t n (n - i) i ≡ check.Refused reason i
+    pub scan_refused : i < n → (reason : Ground) → read_record (fields_at t (i * 16)) n ≡ Err reason
+        → check_records_from t n (n - i) i ≡ refused reason i
     unfolding check_records_from
     scan_refused h reason e = rw (steps_left n i h, e)
 
-    pub scan_end : n ≤ i → check_records_from t n (n - i) i ≡ check.Passed
+    pub scan_end : n ≤ i → check_records_from t n (n - i) i ≡ passed
     unfolding check_records_from
     scan_end h = rw none_left
       where

@@ -12,8 +12,9 @@ use Rattle.circuit.specs.declared.record.Record.{Record}
 use Rattle.circuit.specs.declared.record.Record.TheVariants.{Input, Constant, Operator, Multiplexer, Register, Enabled}
 use Rattle.circuit.specs.declared.refusal.Ground.TheVariants.{StimuliNotWhole, TooManyStimuli}
 use Rattle.circuit.specs.declared.refusal.Ground.TheVariants.{NotAnInput, PokeTooWide, FixedInput}
-use Rattle.circuit.specs.declared.refusal.Check.TheVariants.{Passed}
-use Rattle.circuit.specs.declared.stimulus.ReadStimulus.TheVariants.{Read}
+use Rattle.std.specs.Prelude.{Ok}
+use Rattle.circuit.specs.Refusal.{passed}
+use Rattle.std.specs.Prelude.{Ok}
 use Rattle.circuit.specs.Record.{width, input_of}
 use Rattle.circuit.specs.Circuit.{Circuit, record_of}
 use Rattle.circuit.specs.Stimuli.{stimulus_kind, stimulus_variable, stimulus_value, stimulus_of, stimulus_at}
@@ -38,7 +39,7 @@ both_true true b e = (refl, e)
 both_true false b e = absurd (let z : ◌≡◌ {A = ℕ} 0 1 = cc in omega arith)
 
 -- a poke that passes meets none of the three tests
-poke_tests : (c : Circuit) (v x i : ℕ) → check_stimulus c (Read (Poke v x)) i ≡ Passed
+poke_tests : (c : Circuit) (v x i : ℕ) → check_stimulus c (Ok (Poke v x)) i ≡ passed
     → (not (ltb v (length c) && is_input (input_of (record_of c v))) ≡ false)
     × (leb (2 ^ width (record_of c v)) x ≡ false)
     × (fixed_to_other (input_of (record_of c v)) x ≡ false)
@@ -48,7 +49,7 @@ poke_tests c v x i e =
     let (e16, p) = refuse_passed PokeTooWide i (leb (2 ^ width (record_of c v)) x) _ p16 in
     (e15, e16, e17)
 
-pub poke_passed : (c : Circuit) (v x i : ℕ) → check_stimulus c (Read (Poke v x)) i ≡ Passed → Poked c v x
+pub poke_passed : (c : Circuit) (v x i : ℕ) → check_stimulus c (Ok (Poke v x)) i ≡ passed → Poked c v x
 poke_passed c v x i e =
     let (e15, e16, e17) = poke_tests c v x i e in
     let q = both_true (ltb v (length c)) (is_input (input_of (record_of c v))) (not-false _ e15) in
@@ -72,22 +73,22 @@ input_record (Enabled w a b n) e = absurd (let z : ◌≡◌ {A = ℕ} 0 1 = cc 
 
 module _ (c : Circuit) where
   -- whether a stimulus passes does not depend on its place
-  passed_anywhere : (x : Stimulus) (i j : ℕ) → check_stimulus c (Read x) i ≡ Passed
-      → check_stimulus c (Read x) j ≡ Passed
+  passed_anywhere : (x : Stimulus) (i j : ℕ) → check_stimulus c (Ok x) i ≡ passed
+      → check_stimulus c (Ok x) j ≡ passed
   passed_anywhere Tick i j e = refl
   passed_anywhere (Poke v x) i j e = let (e15, e16, e17) = poke_tests c v x i e in rw (e15, e16, e17)
 
   -- a stimulus that passes has been read
-  read_passed : (bad : Bool) (x : Stimulus) (i : ℕ) → check_stimulus c (read_from bad x) i ≡ Passed
-      → (bad ≡ false) × (check_stimulus c (Read x) 0 ≡ Passed)
+  read_passed : (bad : Bool) (x : Stimulus) (i : ℕ) → check_stimulus c (read_from bad x) i ≡ passed
+      → (bad ≡ false) × (check_stimulus c (Ok x) 0 ≡ passed)
   read_passed true x i e = absurd (let z : ◌≡◌ {A = ℕ} 0 1 = cc in omega arith)
   read_passed false x i e = (refl, passed_anywhere x i 0 e)
 
   -- none of grounds 14 to 17 holds of the stimulus at a place
   abbrev pub PassedAt : List ℕ → ℕ → Type 0
-  PassedAt s at = (bad_stimulus s at ≡ false) × (check_stimulus c (Read (stimulus_at s at)) 0 ≡ Passed)
+  PassedAt s at = (bad_stimulus s at ≡ false) × (check_stimulus c (Ok (stimulus_at s at)) 0 ≡ passed)
 
-  passed_from : (s : List ℕ) (count i : ℕ) → check_stimuli_from c s count i ≡ Passed
+  passed_from : (s : List ℕ) (count i : ℕ) → check_stimuli_from c s count i ≡ passed
       → (j : ℕ) → i ≤ j → j < i + count → PassedAt s (j * 8)
   unfolding check_stimuli_from
   passed_from s zero i e j low high = absurd (omega arith)
@@ -102,14 +103,14 @@ module _ (c : Circuit) where
       ]
 
   -- none holds of any stimulus of a list that passes
-  pub stimulus_passed : (s : List ℕ) → check_stimuli c s ≡ Passed → (i : ℕ) → i < length s / 8 → PassedAt s (i * 8)
+  pub stimulus_passed : (s : List ℕ) → check_stimuli c s ≡ passed → (i : ℕ) → i < length s / 8 → PassedAt s (i * 8)
   unfolding check_stimuli
   stimulus_passed s e i h =
       let p12 = refuse_passed StimuliNotWhole 0 (not (eqb (length s % 8) 0)) _ e in
       let p13 = refuse_passed TooManyStimuli 0 (ltb 4096 (length s / 8)) _ p12.1 in
       passed_from s (length s / 8) 0 p13.1 i (omega arith) (omega arith)
 
-  accepted_below : (f : ℕ → Stimulus) (n : ℕ) → ((i : ℕ) → i < n → check_stimulus c (Read (f i)) 0 ≡ Passed)
+  accepted_below : (f : ℕ → Stimulus) (n : ℕ) → ((i : ℕ) → i < n → check_stimulus c (Ok (f i)) 0 ≡ passed)
       → Accepted c (list_below f n)
   unfolding list_below
   accepted_below f zero h = tt
@@ -117,13 +118,13 @@ module _ (c : Circuit) where
       (h 0 (omega arith), accepted_below (λ i. f (suc i)) n (λ i l. h (suc i) (omega arith)))
 
   -- a list that passes is accepted
-  pub stimuli_accepted : (s : List ℕ) → check_stimuli c s ≡ Passed → Accepted c (stimuli s)
+  pub stimuli_accepted : (s : List ℕ) → check_stimuli c s ≡ passed → Accepted c (stimuli s)
   unfolding stimuli
   stimuli_accepted s e = accepted_below (λ i. stimulus_at s (i * 8)) (length s / 8)
       (λ i h. (stimulus_passed s e i h).1)
 
   -- the lengths of a list that passes
-  pub stimuli_lengths : (s : List ℕ) → check_stimuli c s ≡ Passed → (length s % 8 ≡ 0) × (length s / 8 ≤ 4096)
+  pub stimuli_lengths : (s : List ℕ) → check_stimuli c s ≡ passed → (length s % 8 ≡ 0) × (length s / 8 ≤ 4096)
   unfolding check_stimuli
   stimuli_lengths s e =
       let (whole, rest) = refuse_passed StimuliNotWhole 0 (not (eqb (length s % 8) 0)) _ e in
@@ -131,7 +132,7 @@ module _ (c : Circuit) where
       (eqb-true _ _ (not-false _ whole), ltb-false _ _ few)
 
   pass_from : (s : List ℕ) (count i : ℕ) → ((j : ℕ) → i ≤ j → j < i + count → PassedAt s (j * 8))
-      → check_stimuli_from c s count i ≡ Passed
+      → check_stimuli_from c s count i ≡ passed
   unfolding check_stimuli_from
   pass_from s zero i h = refl
   pass_from s (suc count) i h =
@@ -141,7 +142,7 @@ module _ (c : Circuit) where
 
   -- a list of such lengths passes where each of its stimuli does
   pub stimuli_pass : (s : List ℕ) → length s % 8 ≡ 0 → length s / 8 ≤ 4096
-      → ((i : ℕ) → i < length s / 8 → PassedAt s (i * 8)) → check_stimuli c s ≡ Passed
+      → ((i : ℕ) → i < length s / 8 → PassedAt s (i * 8)) → check_stimuli c s ≡ passed
   unfolding check_stimuli
   stimuli_pass s whole few h =
       rw (eq-eqb (length s % 8) 0 whole, le-ltb 4096 (length s / 8) few)

@@ -2,6 +2,7 @@
 -- variables alone. A circuit of which that holds, and that has no loop, has a rank; one in which numbers fall along
 -- every wire's uses has no loop.
 -- Assumes nothing.
+use Rattle.circuit.specs.declared.refusal.Ground.{Ground}
 use Rattle.std.proofs.Common.{◌≡◌, ℕ, zero, suc, ◌+◌, ◌*◌, ◌<◌, ◌≤◌, Bool, ◌&&◌, ◌||◌, T, ltb, List, length, get_or, sym, refl, ap, ◌∙◌, subst, ⊎_elim, arith, ltb-true}
 use native.Mathlib.Decide.{ℕ_discrete}
 use Rattle.net.specs.Tests.{all_below, every, member}
@@ -11,9 +12,10 @@ use Rattle.net.proofs.Bools.{T_of, of_T, and_left, and_right, or_cases, all_at, 
 use Rattle.net.proofs.Lists.{length_list_below, get_or_list_below}
 use Rattle.net.proofs.Loops.{ranked_or_loop, ranked_no_loop}
 use Rattle.net.proofs.Settle.{Ranked}
-use Rattle.circuit.specs.declared.refusal.Check.TheVariants as check
-use Rattle.circuit.specs.declared.record.ReadRecord.{ReadRecord}
-use Rattle.circuit.specs.declared.record.ReadRecord.TheVariants.{Read, Refused}
+use Rattle.std.specs.Prelude.{Ok, Err}
+use Rattle.circuit.specs.Refusal.{passed}
+use Rattle.std.specs.Prelude.{Result}
+use Rattle.std.specs.Prelude.{Ok, Err}
 use Rattle.circuit.specs.declared.record.Record.{Record}
 use Rattle.circuit.specs.Record.{uses, role, is_register}
 use Rattle.circuit.specs.Reading.{fields_at, decode, encode, read_record}
@@ -25,11 +27,11 @@ use Rattle.circuit.proofs.Numbers.{fields_encoded}
 
 -- ---- the records
 
-record_read : (x : ReadRecord) (i : ℕ) → at_record x i ≡ check.Passed → (r : Record) × (x ≡ Read r)
-record_read (Read r) i e = (r, refl)
-record_read (Refused reason) i e = absurd (let z : ◌≡◌ {A = ℕ} 0 1 = cc in omega arith)
+record_read : (x : Result Record Ground) (i : ℕ) → at_record x i ≡ passed → (r : Record) × (x ≡ Ok r)
+record_read (Ok r) i e = (r, refl)
+record_read (Err reason) i e = absurd (let z : ◌≡◌ {A = ℕ} 0 1 = cc in omega arith)
 
-valid_from : (t : List ℕ) (n count i : ℕ) → check_records_from t n count i ≡ check.Passed
+valid_from : (t : List ℕ) (n count i : ℕ) → check_records_from t n count i ≡ passed
     → (j : ℕ) → i ≤ j → j < i + count → Valid (fields_at t (j * 16)) n
 unfolding check_records_from
 valid_from t n zero i e j low high = absurd (omega arith)
@@ -43,13 +45,13 @@ valid_from t n (suc count) i e j low high =
     ]
 
 -- no ground from 5 to 10 holds of any record
-pub records_valid : (t : List ℕ) (n : ℕ) → check_records t n ≡ check.Passed → (i : ℕ) → i < n
+pub records_valid : (t : List ℕ) (n : ℕ) → check_records t n ≡ passed → (i : ℕ) → i < n
     → Valid (fields_at t (i * 16)) n
 unfolding check_records
 records_valid t n e i h = valid_from t n n 0 e i (omega arith) (omega arith)
 
 passed_from : (t : List ℕ) (n count i : ℕ) → ((j : ℕ) → i ≤ j → j < i + count → Valid (fields_at t (j * 16)) n)
-    → check_records_from t n count i ≡ check.Passed
+    → check_records_from t n count i ≡ passed
 unfolding check_records_from
 passed_from t n zero i h = refl
 passed_from t n (suc count) i h =
@@ -58,7 +60,7 @@ passed_from t n (suc count) i h =
 
 -- where no ground from 5 to 10 holds of any record, all pass
 pub records_pass : (t : List ℕ) (n : ℕ) → ((i : ℕ) → i < n → Valid (fields_at t (i * 16)) n)
-    → check_records t n ≡ check.Passed
+    → check_records t n ≡ passed
 unfolding check_records
 records_pass t n h = passed_from t n n 0 (λ j low high. h j (omega arith))
 
@@ -72,7 +74,7 @@ pub circuit_record : (t : List ℕ) (n i : ℕ) → i < n → record_of (circuit
 unfolding circuit
 circuit_record t n i h = get_or_list_below _ n i _ h
 
-module _ (t : List ℕ) (n : ℕ) (e : check_records t n ≡ check.Passed) (v : ℕ) (h : v < n) where
+module _ (t : List ℕ) (n : ℕ) (e : check_records t n ≡ passed) (v : ℕ) (h : v < n) where
   -- the numbers of a record that passed are its fields
   pub record_encoded : encode (record_of (circuit t n) v) ≡ fields_at t (v * 16)
   record_encoded =
@@ -87,12 +89,12 @@ abbrev pub Inside : Circuit → Type 0
 Inside c = (v u : ℕ) → v < length c → Uses (graph c) v u → u < length c
 
 -- every variable that record v uses is one of the n
-pub record_uses : (t : List ℕ) (n : ℕ) → check_records t n ≡ check.Passed → (v : ℕ) → v < n
+pub record_uses : (t : List ℕ) (n : ℕ) → check_records t n ≡ passed → (v : ℕ) → v < n
     → (u : ℕ) → T (member u (uses (decode (fields_at t (v * 16))))) → u < n
 record_uses t n e v below u m =
     ltb-true u n (of_T _ (every_at (λ x. ltb x n) _ (T_of _ (records_valid t n e v below).variables) u m))
 
-pub circuit_inside : (t : List ℕ) (n : ℕ) → check_records t n ≡ check.Passed → Inside (circuit t n)
+pub circuit_inside : (t : List ℕ) (n : ℕ) → check_records t n ≡ passed → Inside (circuit t n)
 circuit_inside t n e v u h m =
     let below : v < n = omega (arith, circuit_length t n) in
     let used : T (member u (uses (decode (fields_at t (v * 16))))) = rw (circuit_record t n v below) at m in
@@ -123,7 +125,7 @@ module _ (c : Circuit) (rank : ℕ → ℕ) (v : ℕ) where
 abbrev pub Falls : List ℕ → ℕ → List ℕ → Type 0
 Falls t n ranks = T (all_below (falling (circuit t n) (λ v. get_or ranks v 0)) (length (circuit t n)))
 
-pub falling_no_loop : (t : List ℕ) (n : ℕ) (ranks : List ℕ) → check_records t n ≡ check.Passed → Falls t n ranks
+pub falling_no_loop : (t : List ℕ) (n : ℕ) (ranks : List ℕ) → check_records t n ≡ passed → Falls t n ranks
     → NoLoop (circuit t n)
 falling_no_loop t n ranks passed h =
     ranked_no_loop

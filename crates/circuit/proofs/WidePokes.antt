@@ -9,8 +9,9 @@ use Rattle.circuit.specs.declared.record.InputKind.{InputKind}
 use Rattle.circuit.specs.declared.record.InputKind.TheVariants.{Fixed, Free, Secret}
 use Rattle.circuit.specs.declared.record.Record.TheVariants.{Input}
 use Rattle.circuit.specs.declared.refusal.Ground.{Ground}
-use Rattle.circuit.specs.declared.refusal.Check.TheVariants.{Passed}
-use Rattle.circuit.specs.declared.stimulus.ReadStimulus.TheVariants.{Read}
+use Rattle.std.specs.Prelude.{Ok}
+use Rattle.circuit.specs.Refusal.{passed}
+use Rattle.std.specs.Prelude.{Ok}
 use Rattle.circuit.specs.Refusal.{ground_number}
 use Rattle.circuit.specs.Record.{width, input_of}
 use Rattle.circuit.specs.Reading.{encode}
@@ -30,7 +31,7 @@ pub record WidePoke (c : Circuit) (s : List ℕ) (i : ℕ) : Type 0 where
   pub listed : i < length s / 8
   pub variable : ℕ
   pub value : ℕ
-  pub read : read_stimulus s (i * 8) ≡ Read (Poke variable value)
+  pub read : read_stimulus s (i * 8) ≡ Ok (Poke variable value)
   pub below : variable < length c
   pub free_or_secret : FreeOrSecret (input_of (record_of c variable))
   pub wide : 2 ^ width (record_of c variable) ≤ value
@@ -42,7 +43,7 @@ not_fixed w (Fixed n) x fits own wide = absurd (omega (arith, eqb-true x n (not-
 not_fixed w Free x fits own wide = inl refl
 not_fixed w Secret x fits own wide = inr refl
 
-module _ (t : List ℕ) (n : ℕ) (valid : check_records t n ≡ Passed) (s : List ℕ) where
+module _ (t : List ℕ) (n : ℕ) (valid : check_records t n ≡ passed) (s : List ℕ) where
   abbrev c : Circuit
   c = circuit t n
 

@@ -7,8 +7,9 @@ use mathlib.Core.List.{flatten}
 use Rattle.std.proofs.Common.{arith}
 use Rattle.net.specs.Tests.{member}
 use Rattle.net.specs.Loop.{Loop}
-use Rattle.circuit.specs.declared.refusal.Check.{Check}
-use Rattle.circuit.specs.declared.refusal.Check.TheVariants.{Passed, Refused}
+use Rattle.circuit.specs.Refusal.{Check}
+use Rattle.std.specs.Prelude.{Ok, Err}
+use Rattle.circuit.specs.Refusal.{passed}
 use Rattle.circuit.specs.Refusal.{ground_number, ◌then◌}
 use Rattle.circuit.specs.Circuit.{circuit, graph}
 use Rattle.circuit.specs.Checks.{check_records, check_call}
@@ -175,8 +176,8 @@ with (f ∷ fs) = f.made (with fs)
 
 -- what a check finds, by the ground's number, and the place; nothing where it passes
 abbrev pub told : Check → List ℕ
-told Passed = []
-told (Refused reason place) = ground_number reason ∷ place ∷ []
+told (Ok u) = []
+told (Err r) = ground_number r.reason ∷ r.place ∷ []
 
 -- the first fault of a row, told alike
 abbrev pub first_of : List Fault → List ℕ
@@ -285,7 +286,7 @@ unfolding flatten check_records check_stimuli circuit
 refusals_hold = refl
 
 -- the fault that is left to ground 11 is a loop, and no other ground finds it
-pub loop_left : (found (with (loop ∷ [])) ≡ Passed) × Loop (graph (circuit (with (loop ∷ [])).table 7)) (3 ∷ [])
+pub loop_left : (found (with (loop ∷ [])) ≡ passed) × Loop (graph (circuit (with (loop ∷ [])).table 7)) (3 ∷ [])
 unfolding flatten check_records check_stimuli circuit member
 loop_left = (
   refl,

@@ -8,5 +8,6 @@ pub mod Circuit
 pub mod Checks
 pub mod Machine
 pub mod Stimuli
+pub mod Tables
 pub mod Runs
 pub mod Faults

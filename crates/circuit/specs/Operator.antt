@@ -2,8 +2,8 @@
 -- Assumes nothing.
 use Rattle.std.specs.Prelude.{ℕ, ◌+◌, ◌-◌, ◌*◌, ◌/◌, ◌%◌, ◌^◌, cond, List, [], ◌∷◌, map, ◌==◌, bit_and, bit_or, bit_xor, nat_lt, slice_index_or}
 use Rattle.circuit.specs.declared.operator.Operator.{Operator}
-use Rattle.circuit.specs.declared.operator.ReadOperator.{ReadOperator}
-use Rattle.circuit.specs.declared.operator.ReadOperator.TheVariants.{Is, None}
+use Rattle.std.specs.Prelude.{Option}
+use Rattle.std.specs.Prelude.{Some, None}
 use Rattle.circuit.specs.declared.operator.Operator.TheVariants.{Add, Sub, And, Or, Xor, Equal, Less, ShiftLeft, ShiftRight}
 
 -- document 01's code of each operator
@@ -27,8 +27,8 @@ abbrev pub operator_of : ℕ → Operator
 operator_of code = slice_index_or operators code ShiftRight
 
 -- the operator of a code, if it has one
-abbrev pub read_operator : ℕ → ReadOperator
-read_operator code = slice_index_or (map Is operators) code None
+abbrev pub read_operator : ℕ → Option Operator
+read_operator code = slice_index_or (map Some operators) code None
 
 -- What an operator makes of a and b before the remainder by 2^w. Numbers have no sign here, so a - b is a number that
 -- differs from it by a multiple of 2^w.
@@ -48,8 +48,8 @@ unfoldable pub result : Operator → ℕ → ℕ → ℕ → ℕ
 result op w a b = apply op w a b % 2 ^ w
 
 -- the result of what a code reads as, 0 where it has no operator
-abbrev pub result_of : ReadOperator → ℕ → ℕ → ℕ → ℕ
-result_of (Is op) w a b = result op w a b
+abbrev pub result_of : Option Operator → ℕ → ℕ → ℕ → ℕ
+result_of (Some op) w a b = result op w a b
 result_of None w a b = 0
 
 abbrev pub result_of_code : ℕ → ℕ → ℕ → ℕ → ℕ

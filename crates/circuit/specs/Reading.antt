@@ -5,16 +5,16 @@ use Rattle.net.specs.Tests.{every}
 use Rattle.circuit.specs.declared.record.Fields.{Fields}
 use Rattle.circuit.specs.declared.record.Kind.{Kind}
 use Rattle.circuit.specs.declared.record.Kind.TheVariants as kind
-use Rattle.circuit.specs.declared.record.ReadKind.{ReadKind}
-use Rattle.circuit.specs.declared.record.ReadKind.TheVariants as read-kind
-use Rattle.circuit.specs.declared.record.ReadInput.{ReadInput}
-use Rattle.circuit.specs.declared.record.ReadInput.TheVariants as read-input
+use Rattle.std.specs.Prelude.{Option}
+use Rattle.std.specs.Prelude.{Some, None}
+use Rattle.std.specs.Prelude.{Option}
+use Rattle.std.specs.Prelude.{Some, None}
 use Rattle.circuit.specs.declared.record.InputKind.{InputKind}
 use Rattle.circuit.specs.declared.record.InputKind.TheVariants.{Fixed, Free, Secret}
 use Rattle.circuit.specs.declared.record.Record.{Record}
 use Rattle.circuit.specs.declared.record.Record.TheVariants.{Input, Constant, Operator, Multiplexer, Register, Enabled}
-use Rattle.circuit.specs.declared.record.ReadRecord.{ReadRecord}
-use Rattle.circuit.specs.declared.record.ReadRecord.TheVariants.{Read, Refused}
+use Rattle.std.specs.Prelude.{Result}
+use Rattle.std.specs.Prelude.{Ok, Err}
 use Rattle.circuit.specs.declared.refusal.Ground.{Ground}
 use Rattle.circuit.specs.declared.refusal.Ground.TheVariants.{UnknownKind, BadWidth, UnknownCode, UnusedNotZero, NoSuchVariable, ValueTooWide}
 use Rattle.circuit.specs.Number.{u16_at, u32_at, u16_bytes, u32_bytes}
@@ -49,8 +49,8 @@ abbrev pub kinds : List Kind
 kinds = kind.Input ∷ kind.Constant ∷ kind.Operator ∷ kind.Multiplexer ∷ kind.Register ∷ kind.Enabled ∷ []
 
 -- the kind of a byte, if it has one
-abbrev pub read_kind : ℕ → ReadKind
-read_kind byte = slice_index_or (map read-kind.Is kinds) byte read-kind.None
+abbrev pub read_kind : ℕ → Option Kind
+read_kind byte = slice_index_or (map Some kinds) byte None
 
 -- document 01's byte 2 of each kind of input
 abbrev pub input_code : InputKind → ℕ
@@ -69,8 +69,8 @@ abbrev pub input_kinds : ℕ → List InputKind
 input_kinds n = Fixed n ∷ Free ∷ Secret ∷ []
 
 -- the kind of input of a code, if it has one
-abbrev pub read_input : ℕ → ℕ → ReadInput
-read_input code n = slice_index_or (map read-input.Is (input_kinds n)) code read-input.None
+abbrev pub read_input : ℕ → ℕ → Option InputKind
+read_input code n = slice_index_or (map Some (input_kinds n)) code None
 
 -- the kind of input of a code; ground 7 turns away every code past the last, which reads as secret here
 abbrev pub input_kind_of : ℕ → ℕ → InputKind
@@ -135,12 +135,12 @@ unused (Register w a n) f = f.b ∷ f.c ∷ []
 unused (Enabled w a b n) f = f.c ∷ []
 
 -- refused on a ground where the test holds; else what is tried next
-abbrev pub refuse_record : Ground → Bool → ReadRecord → ReadRecord
-refuse_record reason true next = Refused reason
+abbrev pub refuse_record : Ground → Bool → Result Record Ground → Result Record Ground
+refuse_record reason true next = Err reason
 refuse_record reason false next = next
 
 -- Grounds 5 to 10, in order, of a record among n records. Where ground 10 is tried, a value that is not used is 0.
-unfoldable pub read_record : Fields → ℕ → ReadRecord
+unfoldable pub read_record : Fields → ℕ → Result Record Ground
 unfolding decode every
 read_record f n =
     refuse_record UnknownKind (nat_lt 5 f.kind)
@@ -149,4 +149,4 @@ read_record f n =
     (refuse_record UnusedNotZero (not (every (λ x. nat_eq x 0) (f.byte3 ∷ f.bytes10 ∷ unused (decode f) f)))
     (refuse_record NoSuchVariable (not (every (λ v. ltb v n) (uses (decode f))))
     (refuse_record ValueTooWide (nat_le (2 ^ f.width) f.value)
-    (Read (decode f)))))))
+    (Ok (decode f)))))))

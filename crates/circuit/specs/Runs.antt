@@ -3,7 +3,7 @@
 use Rattle.std.specs.Prelude.{◌≡◌, ℕ, ◌*◌, List, [], ◌∷◌, length, take, refl}
 use mathlib.Core.List.{flatten}
 use Rattle.net.specs.Net.{list_below}
-use Rattle.circuit.specs.declared.refusal.Check.TheVariants.{Passed}
+use Rattle.circuit.specs.Refusal.{passed}
 use Rattle.circuit.specs.Refusal.{◌then◌}
 use Rattle.circuit.specs.Circuit.{circuit}
 use Rattle.circuit.specs.Checks.{check_length, check_records}
@@ -19,7 +19,7 @@ pub record Run : Type 0 where
 abbrev pub RunHolds : List ℕ → ℕ → List ℕ → List ℕ → Type 0
 RunHolds t n s values =
     (length t ≡ n * 16)
-    × ((check_length (length t) then check_records t n then check_stimuli (circuit t n) s) ≡ Passed)
+    × ((check_length (length t) then check_records t n then check_stimuli (circuit t n) s) ≡ passed)
     × (list_below (machine (circuit t n) (stimuli s)) n ≡ values)
 
 abbrev pub RunsHold : List Run → Type 0

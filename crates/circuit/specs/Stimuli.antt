@@ -1,16 +1,18 @@
 -- Document 01's stimuli from their bytes, 8 a stimulus, and grounds 12 to 17 in order, 17 before 16 as request S-6 has
 -- it.
 -- Assumes nothing.
+use Rattle.circuit.specs.declared.refusal.Ground.{Ground}
 use Rattle.std.specs.Prelude.{◌≡◌, ℕ, zero, suc, ◌+◌, ◌*◌, ◌/◌, ◌%◌, ◌^◌, Bool, true, false, not, ◌&&◌, ◌||◌, List, [], ◌∷◌, length, ◌==◌, nat_le, nat_lt, slice_index, slice_index_or}
 use Rattle.std.proofs.Math.Option.{Option, none, some}
 use Rattle.net.specs.declared.Stimulus.{Stimulus}
 use Rattle.net.specs.declared.Stimulus.TheVariants.{Poke, Tick}
 use Rattle.net.specs.Net.{list_below}
 use Rattle.circuit.specs.declared.refusal.Ground.TheVariants.{StimuliNotWhole, TooManyStimuli, BadStimulus, NotAnInput, PokeTooWide, FixedInput}
-use Rattle.circuit.specs.declared.refusal.Check.{Check}
-use Rattle.circuit.specs.declared.refusal.Check.TheVariants as check
-use Rattle.circuit.specs.declared.stimulus.ReadStimulus.{ReadStimulus}
-use Rattle.circuit.specs.declared.stimulus.ReadStimulus.TheVariants.{Read, Refused}
+use Rattle.circuit.specs.Refusal.{Check}
+use Rattle.std.specs.Prelude.{Ok, Err}
+use Rattle.circuit.specs.Refusal.{passed, refused}
+use Rattle.std.specs.Prelude.{Result}
+use Rattle.std.specs.Prelude.{Ok, Err}
 use Rattle.circuit.specs.declared.record.InputKind.{InputKind}
 use Rattle.circuit.specs.declared.record.InputKind.TheVariants.{Fixed, Free, Secret}
 use Rattle.circuit.specs.Number.{u16_at, u32_at}
@@ -48,12 +50,12 @@ abbrev pub bad_stimulus : List ℕ → ℕ → Bool
 bad_stimulus s at = bad_numbers (slice_index s at) (slice_index s (at + 1)) (u16_at s (at + 2)) (u32_at s (at + 4))
 
 -- the stimulus, or ground 14 where the test holds
-abbrev pub read_from : Bool → Stimulus → ReadStimulus
-read_from true x = Refused BadStimulus
-read_from false x = Read x
+abbrev pub read_from : Bool → Stimulus → Result Stimulus Ground
+read_from true x = Err BadStimulus
+read_from false x = Ok x
 
 -- the stimulus of the 8 bytes from a place on, or ground 14
-abbrev pub read_stimulus : List ℕ → ℕ → ReadStimulus
+abbrev pub read_stimulus : List ℕ → ℕ → Result Stimulus Ground
 read_stimulus s at = read_from (bad_stimulus s at) (stimulus_at s at)
 
 abbrev pub is_input : Option InputKind → Bool
@@ -68,17 +70,17 @@ fixed_to_other (some Secret) x = false
 fixed_to_other none x = false
 
 -- grounds 14 to 17 of stimulus i: a poke names an input of the table, with a value that a fixed one has and that fits
-abbrev pub check_stimulus : Circuit → ReadStimulus → ℕ → Check
-check_stimulus c (Refused reason) i = check.Refused reason i
-check_stimulus c (Read Tick) i = check.Passed
-check_stimulus c (Read (Poke v x)) i =
+abbrev pub check_stimulus : Circuit → Result Stimulus Ground → ℕ → Check
+check_stimulus c (Err reason) i = refused reason i
+check_stimulus c (Ok Tick) i = passed
+check_stimulus c (Ok (Poke v x)) i =
     refuse NotAnInput i (not (nat_lt v (length c) && is_input (input_of (record_of c v))))
     (refuse FixedInput i (fixed_to_other (input_of (record_of c v)) x)
-    (refuse PokeTooWide i (nat_le (2 ^ width (record_of c v)) x) check.Passed))
+    (refuse PokeTooWide i (nat_le (2 ^ width (record_of c v)) x) passed))
 
 -- grounds 14 to 17 of `count` stimuli from stimulus i on
 unfoldable pub check_stimuli_from : Circuit → List ℕ → ℕ → ℕ → Check
-check_stimuli_from c s zero i = check.Passed
+check_stimuli_from c s zero i = passed
 check_stimuli_from c s (suc count) i = check_stimulus c (read_stimulus s (i * 8)) i then check_stimuli_from c s count (i + 1)
 
 -- grounds 12 to 17 of a list of stimuli in bytes
@@ -99,4 +101,4 @@ stimuli s = list_below (λ i. stimulus_at s (i * 8)) (length s / 8)
 -- no stimulus of the list meets one of grounds 15 to 17
 abbrev pub Accepted : Circuit → List Stimulus → Type 0
 Accepted c [] = Unit {0}
-Accepted c (x ∷ xs) = (check_stimulus c (Read x) 0 ≡ check.Passed) × Accepted c xs
+Accepted c (x ∷ xs) = (check_stimulus c (Ok x) 0 ≡ passed) × Accepted c xs

@@ -7,5 +7,5 @@ pub mod number;
 pub mod operator;
 pub mod record;
 pub mod refusal;
-pub mod stimulus;
 pub mod table;
+pub mod width;

@@ -3,13 +3,13 @@ ghost use Rattle.std.specs.Prelude.{◌≡◌, ◌+◌, ◌^◌, ◌≤◌, ◌|
 ghost use Rattle.net.specs.Tests.{every};
 ghost use Rattle.circuit.specs.Record.{uses};
 ghost use Rattle.circuit.specs.Operator.{operator_of};
-ghost use Rattle.circuit.specs.Powers.{Powers};
 ghost use Rattle.circuit.specs.Machine.{initial};
 ghost use Rattle.circuit.specs.Reading as reading;
 
 use crate::number::{u16_at, u32_at};
-use crate::operator::{Operator, PowerTable, ReadOperator, power_in, read_operator};
+use crate::operator::{Operator, read_operator};
 use crate::refusal::Ground;
+use crate::width::PowerTable;
 
 // The 16 bytes, field by field.
 #[derive(Clone, Copy)]
@@ -36,24 +36,12 @@ pub enum Kind {
     Enabled,
 }
 
-#[derive(Clone, Copy)]
-pub enum ReadKind {
-    Is(Kind),
-    None,
-}
-
 // An input is fixed to a number, free or secret.
 #[derive(Clone, Copy)]
 pub enum InputKind {
     Fixed(u32),
     Free,
     Secret,
-}
-
-#[derive(Clone, Copy)]
-pub enum ReadInput {
-    Is(InputKind),
-    None,
 }
 
 // One of six kinds, each with its width first. A register's last number is its power-on value; one with an enable has
@@ -66,13 +54,6 @@ pub enum Record {
     Multiplexer(u8, u16, u16, u16),
     Register(u8, u16, u32),
     Enabled(u8, u16, u16, u32),
-}
-
-// What a record's fields read as.
-#[derive(Clone, Copy)]
-pub enum ReadRecord {
-    Read(Record),
-    Refused(Ground),
 }
 
 // The fields of the 16 bytes from a place on.
@@ -93,28 +74,30 @@ pub fn fields_at(t: &[u8], at: usize) -> Fields
     }
 }
 
-pub fn read_kind(kind: u8) -> ReadKind
+// The kind of byte 0, if it has one.
+pub fn read_kind(kind: u8) -> Option<Kind>
     ensures { result ≡ reading.read_kind kind }
 {
     match kind {
-        0 => ReadKind::Is(Kind::Input),
-        1 => ReadKind::Is(Kind::Constant),
-        2 => ReadKind::Is(Kind::Operator),
-        3 => ReadKind::Is(Kind::Multiplexer),
-        4 => ReadKind::Is(Kind::Register),
-        5 => ReadKind::Is(Kind::Enabled),
-        6..=255 => ReadKind::None,
+        0 => Some(Kind::Input),
+        1 => Some(Kind::Constant),
+        2 => Some(Kind::Operator),
+        3 => Some(Kind::Multiplexer),
+        4 => Some(Kind::Register),
+        5 => Some(Kind::Enabled),
+        6..=255 => None,
     }
 }
 
-pub fn read_input(code: u8, value: u32) -> ReadInput
+// The kind of input of a code byte, if it has one.
+pub fn read_input(code: u8, value: u32) -> Option<InputKind>
     ensures { result ≡ reading.read_input code value }
 {
     match code {
-        0 => ReadInput::Is(InputKind::Fixed(value)),
-        1 => ReadInput::Is(InputKind::Free),
-        2 => ReadInput::Is(InputKind::Secret),
-        3..=255 => ReadInput::None,
+        0 => Some(InputKind::Fixed(value)),
+        1 => Some(InputKind::Free),
+        2 => Some(InputKind::Secret),
+        3..=255 => None,
     }
 }
 
@@ -122,7 +105,7 @@ pub fn read_input(code: u8, value: u32) -> ReadInput
 fn input_kind(code: u8, value: u32) -> InputKind
     ensures { result ≡ reading.input_kind_of code value }
 {
-    let ReadInput::Is(kind) = read_input(code, value) else {
+    let Some(kind) = read_input(code, value) else {
         return InputKind::Secret;
     };
     kind
@@ -131,7 +114,7 @@ fn input_kind(code: u8, value: u32) -> InputKind
 pub fn operator_of(code: u8) -> Operator
     ensures { result ≡ operator_of code }
 {
-    let ReadOperator::Is(op) = read_operator(code) else {
+    let Some(op) = read_operator(code) else {
         return Operator::ShiftRight;
     };
     op
@@ -156,10 +139,7 @@ pub fn decode(f: Fields) -> Record
 fn bad_width(w: u8) -> bool
     ensures { result ≡ (w == 0 || nat_lt 32 w) }
 {
-    if w == 0 {
-        return true;
-    }
-    32 < w
+    w == 0 || 32 < w
 }
 
 // Ground 7: byte 2 has no such value for the kind.
@@ -167,44 +147,17 @@ fn unknown_code(kind: Kind, code: u8) -> bool
     ensures { result ≡ nat_le (reading.codes (reading.kind_number kind)) code }
 {
     match kind {
-        Kind::Input => {
-            let ReadInput::Is(_) = read_input(code, 0) else {
-                return true;
-            };
-            false
-        }
-        Kind::Operator => {
-            let ReadOperator::Is(_) = read_operator(code) else {
-                return true;
-            };
-            false
-        }
-        Kind::Constant => 1 <= code,
-        Kind::Multiplexer => 1 <= code,
-        Kind::Register => 1 <= code,
-        Kind::Enabled => 1 <= code,
+        Kind::Input => read_input(code, 0).is_none(),
+        Kind::Operator => read_operator(code).is_none(),
+        Kind::Constant | Kind::Multiplexer | Kind::Register | Kind::Enabled => 1 <= code,
     }
 }
 
+#[tactic(auto, unfolding(net::specs::Tests::every))]
 fn all_zero(byte3: u8, bytes10: u16, a: u16, b: u16, c: u16, value: u32) -> bool
     ensures { result ≡ every (λ x. nat_eq x 0) (byte3 ∷ bytes10 ∷ a ∷ b ∷ c ∷ value ∷ []) }
 {
-    if byte3 != 0 {
-        return false;
-    }
-    if bytes10 != 0 {
-        return false;
-    }
-    if a != 0 {
-        return false;
-    }
-    if b != 0 {
-        return false;
-    }
-    if c != 0 {
-        return false;
-    }
-    value == 0
+    byte3 == 0 && bytes10 == 0 && a == 0 && b == 0 && c == 0 && value == 0
 }
 
 // Ground 8: what the record does not use is 0. What it uses is passed as 0.
@@ -225,16 +178,11 @@ fn unused_zero(r: Record, f: Fields) -> bool
     }
 }
 
+#[tactic(auto, unfolding(net::specs::Tests::every))]
 fn all_below(a: u16, b: u16, c: u16, n: usize) -> bool
     ensures { result ≡ every (λ v. ltb v n) (a ∷ b ∷ c ∷ []) }
 {
-    if n <= a as usize {
-        return false;
-    }
-    if n <= b as usize {
-        return false;
-    }
-    (c as usize) < n
+    usize::from(a) < n && usize::from(b) < n && usize::from(c) < n
 }
 
 // Ground 9: every variable that the record uses is below n. One that it uses stands in for each that it does not.
@@ -251,40 +199,31 @@ fn uses_below(r: Record, n: usize) -> bool
     }
 }
 
-// Whether a value does not fit the width w, whose power is the modulus. The width is there for the contract alone.
-pub fn too_wide(value: u32, w: u8, modulus: u64) -> bool
-    requires { modulus ≡ 2 ^ w }
-    ensures { result ≡ nat_le (2 ^ w) value }
-{
-    modulus <= value as u64
-}
-
 // The record that fields read as among n records, or the first of grounds 5 to 10 that holds.
-pub fn read_record(f: Fields, n: usize, powers: &PowerTable) -> ReadRecord
-    requires { Powers powers.now }
+pub fn read_record(f: Fields, n: usize, powers: &PowerTable) -> Result<Record, Ground>
     ensures { result ≡ reading.read_record f n }
 {
     let byte = f.kind;
-    let ReadKind::Is(kind) = read_kind(byte) else {
-        return ReadRecord::Refused(Ground::UnknownKind);
+    let Some(kind) = read_kind(byte) else {
+        return Err(Ground::UnknownKind);
     };
     if bad_width(f.width) {
-        return ReadRecord::Refused(Ground::BadWidth);
+        return Err(Ground::BadWidth);
     }
     if unknown_code(kind, f.code) {
-        return ReadRecord::Refused(Ground::UnknownCode);
+        return Err(Ground::UnknownCode);
     }
     let r = decode(f);
     if !unused_zero(r, f) {
-        return ReadRecord::Refused(Ground::UnusedNotZero);
+        return Err(Ground::UnusedNotZero);
     }
     if !uses_below(r, n) {
-        return ReadRecord::Refused(Ground::NoSuchVariable);
+        return Err(Ground::NoSuchVariable);
     }
-    if too_wide(f.value, f.width, power_in(powers, f.width)) {
-        return ReadRecord::Refused(Ground::ValueTooWide);
+    if powers.width(f.width).is_exceeded_by(f.value) {
+        return Err(Ground::ValueTooWide);
     }
-    ReadRecord::Read(r)
+    Ok(r)
 }
 
 // What a register holds at power-on; 0 for an input, a fixed one too, and for a wire.
@@ -292,11 +231,8 @@ pub fn initial_value(r: Record) -> u32
     ensures { result ≡ initial r }
 {
     match r {
-        Record::Input(_, _) => 0,
-        Record::Constant(_, _) => 0,
-        Record::Operator(_, _, _, _) => 0,
-        Record::Multiplexer(_, _, _, _) => 0,
-        Record::Register(_, _, n) => n,
-        Record::Enabled(_, _, _, n) => n,
+        Record::Input(..) | Record::Constant(..) | Record::Operator(..) | Record::Multiplexer(..) =>
+            0,
+        Record::Register(_, _, n) | Record::Enabled(_, _, _, n) => n,
     }
 }

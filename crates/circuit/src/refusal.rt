@@ -1,10 +1,10 @@
-// The grounds for turning work down, in the order of their numbers, these, and what a check of some of them finds.
+// The grounds for turning work down, with their numbers, and a refusal: a ground with its place.
 ghost use Rattle.std.specs.Prelude.{◌≡◌};
 ghost use Rattle.circuit.specs.Refusal.{ground_number};
 
-#[derive(Clone, Copy)]
+#[derive(Clone, Copy, PartialEq, Eq)]
 pub enum Ground {
-    TableTooLong,
+    TableTooLong = 1,
     TableNotWhole,
     OutputShort,
     ScratchShort,
@@ -30,41 +30,31 @@ pub enum Ground {
     ForeignCertificate,
 }
 
-// No ground holds, or the first that does, with its place.
-#[derive(Clone, Copy)]
-pub enum Check {
-    Passed,
-    Refused(Ground, usize),
+// The first ground that holds, and its place.
+#[derive(Clone, Copy, PartialEq, Eq)]
+pub struct Refusal {
+    pub reason: Ground,
+    pub place: usize,
+}
+
+// What a check of some grounds finds: none holds, or the first that does.
+pub type Check = Result<(), Refusal>;
+
+impl Ground {
+    // A refusal on this ground.
+    pub fn at(self, place: usize) -> Refusal
+        ensures { result ≡ record { reason = self; place = place } }
+    {
+        Refusal {
+            reason: self,
+            place,
+        }
+    }
 }
 
 // A ground's number.
 pub fn ground_number(reason: Ground) -> u64
     ensures { result ≡ ground_number reason }
 {
-    match reason {
-        Ground::TableTooLong => 1,
-        Ground::TableNotWhole => 2,
-        Ground::OutputShort => 3,
-        Ground::ScratchShort => 4,
-        Ground::UnknownKind => 5,
-        Ground::BadWidth => 6,
-        Ground::UnknownCode => 7,
-        Ground::UnusedNotZero => 8,
-        Ground::NoSuchVariable => 9,
-        Ground::ValueTooWide => 10,
-        Ground::Loop => 11,
-        Ground::StimuliNotWhole => 12,
-        Ground::TooManyStimuli => 13,
-        Ground::BadStimulus => 14,
-        Ground::NotAnInput => 15,
-        Ground::PokeTooWide => 16,
-        Ground::FixedInput => 17,
-        Ground::TooManySizes => 18,
-        Ground::SizeTooLarge => 19,
-        Ground::NoSuchKept => 20,
-        Ground::TrimmedShort => 21,
-        Ground::BadCertificate => 22,
-        Ground::NotMarked => 23,
-        Ground::ForeignCertificate => 24,
-    }
+    reason as u64
 }

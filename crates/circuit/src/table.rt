@@ -2,10 +2,29 @@
 ghost use Rattle.std.specs.Prelude.{◌≡◌, ◌+◌, ◌*◌, ◌<◌, ◌≤◌, length, slice_index};
 ghost use Rattle.circuit.specs.Record.{uses, wire_uses, is_register};
 ghost use Rattle.circuit.specs.Reading.{fields_at, decode};
+ghost use Rattle.circuit.specs.Checks.{Checked};
 
-use crate::number::{u16_at, u32_at, wide};
+use crate::number::{u16_at, u32_at};
 use crate::record;
 use crate::record::{Record, fields_at};
+
+// A table: its bytes, and how many records stand in front of them, which passed the checks.
+#[derive(Clone, Copy)]
+pub struct Table<'a> {
+    pub bytes: &'a [u8],
+    pub records: usize,
+    pub ghost checked: { Checked bytes.now records },
+}
+
+impl<'a> Table<'a> {
+    // The table of records that passed.
+    pub fn new(bytes: &'a [u8], records: usize) -> Table<'a>
+        requires { Checked bytes.now records }
+        ensures { (result.bytes.now ≡ bytes.now) × (result.records ≡ records) }
+    {
+        Table { bytes, records }
+    }
+}
 
 // 0 where record v is no wire, else one more than the number of variables that it uses. The numbers of kinds 0 to 5,
 // which are 0, 1, 3, 4, 0 and 0, stand in one number of base 16: no branch depends on which kind it is.
@@ -54,7 +73,8 @@ pub fn record_at(t: &[u8], v: usize) -> Record
     record::decode(fields_at(t, v * 16))
 }
 
-// Byte 0 of record v.
+// Byte 0 of record v. The passes ask for this number, not for a `Kind`, which would be made from it and matched again
+// for each variable in each round.
 pub fn kind_at(t: &[u8], v: usize) -> u8
     requires { v * 16 + 16 ≤ length t.now }
     ensures { result ≡ (fields_at t.now (v * 16)).kind }
@@ -83,7 +103,7 @@ pub fn a_at(t: &[u8], v: usize) -> usize
     requires { v * 16 + 16 ≤ length t.now }
     ensures { result ≡ (fields_at t.now (v * 16)).a }
 {
-    wide(u16_at(t, v * 16 + 4))
+    usize::from(u16_at(t, v * 16 + 4))
 }
 
 // Variable B of record v.
@@ -91,7 +111,7 @@ pub fn b_at(t: &[u8], v: usize) -> usize
     requires { v * 16 + 16 ≤ length t.now }
     ensures { result ≡ (fields_at t.now (v * 16)).b }
 {
-    wide(u16_at(t, v * 16 + 6))
+    usize::from(u16_at(t, v * 16 + 6))
 }
 
 // Variable C of record v.
@@ -99,7 +119,7 @@ pub fn c_at(t: &[u8], v: usize) -> usize
     requires { v * 16 + 16 ≤ length t.now }
     ensures { result ≡ (fields_at t.now (v * 16)).c }
 {
-    wide(u16_at(t, v * 16 + 8))
+    usize::from(u16_at(t, v * 16 + 8))
 }
 
 // The value of record v.

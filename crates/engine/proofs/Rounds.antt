@@ -16,19 +16,16 @@ use Rattle.net.specs.Net.{Graph, register, settle, step, round, after, Counts}
 use Rattle.net.proofs.Bools.{T_of, of_T, true_false, all_at, all_of}
 use Rattle.net.proofs.Rounds.{after_suc}
 use Rattle.net.proofs.Settle.{Agree, step_register, settle_register}
-use Rattle.buffer.specs.Kept.{KeptOutside}
 use Rattle.buffer.specs.Store.{Layout, Stands, Holds, Moves}
-use Rattle.buffer.proofs.Filled.{kept_none, outside_none, outside_trans}
+use Rattle.buffer.proofs.Filled.{kept_none}
 use Rattle.buffer.proofs.Store.{moves_then, holds_moves}
 use Rattle.circuit.specs.Record.{role}
 use Rattle.circuit.specs.Circuit.{Circuit, circuit, record_of, graph}
 use Rattle.circuit.proofs.Tables.{circuit_length}
 use Rattle.schedule.specs.Schedule.{register_list}
 use Rattle.schedule.proofs.Registers.{register_list_register, register_list_all}
-use Rattle.engine.specs.Ready.{Ready}
 use Rattle.engine.specs.Registers.{stays_at}
 use Rattle.engine.proofs.Passes.{Lawful}
-use Rattle.engine.proofs.Standing.{ready_long, ready_kept}
 
 round_register : {A : Type 0} (g : Graph) (f : (ℕ → A) → ℕ → A) (s : ℕ → A) (v : ℕ) → g.role v ≡ register
     → round g f s v ≡ f s v
@@ -37,16 +34,18 @@ round_register g f s v e = settle_register g f (step g f s) v e ∙ step_registe
 
 -- ---- whether one of the first j registers changes
 
-not_and : (a b : Bool) → (not a || not b) ≡ not (a && b)
-not_and true b = refl
-not_and false b = refl
+not_and : (a b : Bool) → (not b || not a) ≡ not (a && b)
+not_and true true = refl
+not_and true false = refl
+not_and false true = refl
+not_and false false = refl
 
 pub changes_none : (p : ℕ → Bool) → false ≡ not (all_below p 0)
 unfolding all_below
 changes_none p = refl
 
 pub changes_more : (p : ℕ → Bool) (j : ℕ) {differs changed : Bool} → differs ≡ not (p j)
-    → changed ≡ not (all_below p j) → (differs || changed) ≡ not (all_below p (j + 1))
+    → changed ≡ not (all_below p j) → (changed || differs) ≡ not (all_below p (j + 1))
 unfolding all_below
 changes_more p j d e = rw (add-one j, d, e) (not_and (p j) (all_below p j))
 
@@ -100,69 +99,51 @@ module _ {A : Type 0} {t : List ℕ} {n : ℕ} {f : (ℕ → A) → ℕ → A} (
 -- ---- the rounds under way
 
 -- before the round after the first `count` of `total`
-pub record Running {A : Type 0} (L : Layout A) (room : ℕ) (t : List ℕ) (n : ℕ) (f : (ℕ → A) → ℕ → A) (first : ℕ → A)
-    (total from to : ℕ) (scratch₀ cells₀ scratch cells : List ℕ) (wires registers count : ℕ) : Type 0 where
-  pub ready : Ready L room t n scratch wires registers cells
-  pub kept : KeptOutside from to scratch₀ scratch
-  pub holds : Holds L n (after (graph (circuit t n)) f count first) cells₀ cells
+pub record Running {A : Type 0} (L : Layout A) (t : List ℕ) (n : ℕ) (f : (ℕ → A) → ℕ → A) (first : ℕ → A) (total : ℕ)
+    (entry cells : List ℕ) (count : ℕ) : Type 0 where
+  pub holds : Holds L n (after (graph (circuit t n)) f count first) entry cells
   pub few : count ≤ total
 
-module _ {A : Type 0} {L : Layout A} {room : ℕ} {t : List ℕ} {n : ℕ} {f : (ℕ → A) → ℕ → A} {first : ℕ → A}
-    {total from to : ℕ} {wires registers : ℕ} where
+module _ {A : Type 0} {L : Layout A} {t : List ℕ} {n : ℕ} {f : (ℕ → A) → ℕ → A} {first : ℕ → A} {total : ℕ} where
   -- before any round
-  pub run_start : {scratch cells : List ℕ} → Ready L room t n scratch wires registers cells → Stands L 0 n first cells
-      → Running L room t n f first total from to scratch cells scratch cells wires registers 0
+  pub run_start : {cells : List ℕ} → Stands L 0 n first cells → Running L t n f first total cells cells 0
   unfolding after
-  run_start {scratch} {cells} r h =
-      record {
-        ready = r;
-        kept = outside_none from to scratch;
-        holds = record { kept = kept_none (n * L.each) cells; stands = h };
-        few = zero-le;
-      }
+  run_start {cells} h =
+      record { holds = record { kept = kept_none (n * L.each) cells; stands = h }; few = zero-le }
 
-  module _ {scratch₀ cells₀ scratch cells : List ℕ} {count : ℕ}
-      (run : Running L room t n f first total from to scratch₀ cells₀ scratch cells wires registers count) where
-    pub run_next : {scratch' committed settled : List ℕ} → n ≤ from → KeptOutside from to scratch scratch'
-        → Moves L n (step (graph (circuit t n)) f) cells committed
+  module _ {entry cells : List ℕ} {count : ℕ} (run : Running L t n f first total entry cells count) where
+    pub run_next : {committed settled : List ℕ} → Moves L n (step (graph (circuit t n)) f) cells committed
         → Moves L n (settle (graph (circuit t n)) f) committed settled → count < total
-        → Running L room t n f first total from to scratch₀ cells₀ scratch' settled wires registers (count + 1)
+        → Running L t n f first total entry settled (count + 1)
     unfolding round
-    run_next {settled = settled} low k stepped done l =
+    run_next {settled = settled} stepped done l =
         record {
-          ready = ready_kept (ready_long run.ready (done.kept.long ∙ stepped.kept.long)) low k;
-          kept = outside_trans run.kept k;
           holds =
-              subst (λ (s : ℕ → A). Holds L n s cells₀ settled)
+              subst (λ (s : ℕ → A). Holds L n s entry settled)
               (sym (ap (λ (i : ℕ). after (graph (circuit t n)) f i first) (add-one count)
               ∙ after_suc (graph (circuit t n)) f count first))
               (holds_moves run.holds (moves_then stepped done));
           few = omega arith;
         }
 
-    pub run_end : count ≡ total → Holds L n (after (graph (circuit t n)) f total first) cells₀ cells
+    pub run_end : count ≡ total → Holds L n (after (graph (circuit t n)) f total first) entry cells
     run_end e =
-        subst (λ (k : ℕ). Holds L n (after (graph (circuit t n)) f k first) cells₀ cells) e run.holds
+        subst (λ (k : ℕ). Holds L n (after (graph (circuit t n)) f k first) entry cells) e run.holds
 
     module _ (laws : Lawful t n f) {same : A → A → Bool} (same_eq : (x y : A) → same x y ≡ true → x ≡ y)
         (same_refl : (x : A) → same x x ≡ true) (counted : Counts (graph (circuit t n)) f first total)
         {r : ℕ → A} (reads : (s : ℕ → A) → Stands L 0 n s cells → (v : ℕ) → v < n → r v ≡ s v)
-        {changed : Bool} (e : changed ≡ not (all_below (stays_at (circuit t n) f same r) registers)) where
+        {changed : Bool}
+        (e : changed ≡ not (all_below (stays_at (circuit t n) f same r) (length (register_list (circuit t n))))) where
       agree : Agree (graph (circuit t n)) r (after (graph (circuit t n)) f count first)
       agree v h = reads _ run.holds.stands v (omega (arith, circuit_length t n))
-
-      registers_all : (b : Bool) → all_below (stays_at (circuit t n) f same r) registers ≡ b
-          → all_below (stays_at (circuit t n) f same r) (length (register_list (circuit t n))) ≡ b
-      registers_all b = subst (λ (k : ℕ). all_below (stays_at (circuit t n) f same r) k ≡ b) run.ready.all_registers
 
       -- a round that changes a register is one of those counted
       pub still_running : not changed ≡ false → count < total
       still_running q =
-          not_stopped laws same_eq same_refl counted agree run.few
-          (registers_all false (not-true _ (sym e ∙ not-false changed q)))
+          not_stopped laws same_eq same_refl counted agree run.few (not-true _ (sym e ∙ not-false changed q))
 
       -- one that changes none is the first after them
       pub run_stopped : not changed ≡ true → count ≡ total
       run_stopped q =
-          stopped_here laws same_eq same_refl counted agree run.few
-          (registers_all true (not-false _ (sym e ∙ not-true changed q)))
+          stopped_here laws same_eq same_refl counted agree run.few (not-false _ (sym e ∙ not-true changed q))

@@ -1,122 +1,83 @@
--- The wires and registers that stand in the scratch of a table that is ready, and that it stays ready while other parts
--- of the scratch, and the store, are written.
+-- The wires and registers of a plan; and that a schedule's order leaves a checked table ready.
 -- Assumes nothing.
-use mathlib.Core.Path.{◌≡◌, sym, ◌∙◌, subst}
+use mathlib.Core.Path.{◌≡◌, sym, subst}
 use mathlib.Core.List.{List}
-use Prim.Native.Nat.{ℕ, ◌+◌, ◌*◌, ◌≤◌, ◌<◌}
-use native.Mathlib.Nat.{mul-le-mul_left, mul-one}
+use Prim.Native.Nat.{ℕ, suc, ◌+◌, ◌*◌, ◌≤◌, ◌<◌}
+use native.Mathlib.Nat.{mul-le-mul_left, mul-le-mul_right, mul-one, suc-mul}
 use native.Mathlib.Omega.{arith}
-use lib.ListN.{length, get_or, take}
-use lib.Seq.{ext_get_or, get_or-take, length-take-le}
+use lib.ListN.{length, get_or}
 use Rattle.net.specs.Net.{wire, register}
-use Rattle.buffer.specs.Kept.{KeptOutside}
 use Rattle.buffer.specs.Store.{Layout}
 use Rattle.circuit.specs.Record.{role}
 use Rattle.circuit.specs.Circuit.{circuit, record_of}
+use Rattle.circuit.specs.declared.table.Table.{Table}
+use Rattle.circuit.specs.Tables as tables
 use Rattle.circuit.proofs.Tables.{circuit_length}
 use Rattle.schedule.specs.Schedule.{register_list, Ordered, IsOrder}
 use Rattle.schedule.proofs.Orders.{order_taken, order_listed, order_room}
 use Rattle.schedule.proofs.Registers.{register_list_register}
-use Rattle.engine.specs.Ready.{StoreLent, Evaluable, Wired, Ready}
+use Rattle.engine.specs.declared.plan.Plan.{Plan}
+use Rattle.engine.specs.Plans.{circuit_of}
+use Rattle.engine.specs.Ready.{StoreLent, Evaluable, Ready}
+
+-- the place of one of n values lies in a buffer that has room for them
+pub placed : (each n v : ℕ) {m : ℕ} → v < n → n * each ≤ m → v * each + each ≤ m
+placed each n v h room = omega (arith, mul-le-mul_right {m = suc v} {n = n} each h, suc-mul v each)
+
+-- what stands at a place of an order is a wire
+module _ (t : List ℕ) (n : ℕ) {order : List ℕ} (ordered : Ordered (circuit t n) order) {i v : ℕ} (h : i < length order)
+    (e : v ≡ get_or order i 0) where
+  pub ordered_below : v < n
+  ordered_below = omega (arith, e, (ordered.wires i h).0, circuit_length t n)
+
+  ordered_wire : role (record_of (circuit t n) v) ≡ wire
+  ordered_wire = subst (λ (u : ℕ). role (record_of (circuit t n) u) ≡ wire) (sym e) (ordered.wires i h).1
+
+-- it can be evaluated, from a store that has room
+module _ (t : Table) {order : List ℕ} (ordered : Ordered (tables.circuit_of t) order) {i v : ℕ} (h : i < length order)
+    (e : v ≡ get_or order i 0) where
+  pub ordered_evaluable : {A : Type 0} {L : Layout A} {cells : List ℕ} → t.records * L.each ≤ length cells
+      → Evaluable L wire t.bytes.now t.records cells v
+  ordered_evaluable room =
+      record {
+        store = record { table = t.checked; lent = room };
+        below = ordered_below t.bytes.now t.records ordered h e;
+        is = ordered_wire t.bytes.now t.records ordered h e;
+      }
+
+-- the registers of a plan
+module _ (p : Plan) where
+  module _ {j v : ℕ} (h : j < length p.registers.now) (e : v ≡ get_or p.registers.now j 0) where
+    pub plan_listed : j < length (register_list (circuit_of p))
+    plan_listed = rw p.listed at h
+
+    pub plan_register_at : v ≡ get_or (register_list (circuit_of p)) j 0
+    plan_register_at = rw p.listed at e
+
+    pub plan_register_below : v < p.table.records
+    plan_register_below =
+        omega (
+          arith,
+          plan_register_at,
+          (register_list_register (circuit_of p) j plan_listed).0,
+          circuit_length p.table.bytes.now p.table.records,
+        )
+
+    pub plan_register_role : role (record_of (circuit_of p) v) ≡ register
+    plan_register_role =
+        subst (λ (u : ℕ). role (record_of (circuit_of p) u) ≡ register) (sym plan_register_at)
+        (register_list_register (circuit_of p) j plan_listed).1
+
+    pub plan_register : {A : Type 0} {L : Layout A} {cells : List ℕ} → p.table.records * L.each ≤ length cells
+        → Evaluable L register p.table.bytes.now p.table.records cells v
+    plan_register room =
+        record {
+          store = record { table = p.table.checked; lent = room };
+          below = plan_register_below;
+          is = plan_register_role;
+        }
 
 module _ {A : Type 0} {L : Layout A} {t : List ℕ} {n : ℕ} where
-  lent_long : {cells cells' : List ℕ} → StoreLent L t n cells → length cells' ≡ length cells
-      → StoreLent L t n cells'
-  lent_long s e = record { table = s.table; lent = omega (arith, s.lent) }
-
-  pub wired_long : {scratch : List ℕ} {wires : ℕ} {cells cells' : List ℕ} → Wired L t n scratch wires cells
-      → length cells' ≡ length cells → Wired L t n scratch wires cells'
-  wired_long w e = record { store = lent_long w.store e; few = w.few; order = w.order }
-
-  -- ---- the wires
-
-  module _ {scratch : List ℕ} {wires : ℕ} {cells : List ℕ} (w : Wired L t n scratch wires cells) {i v : ℕ}
-      (h : i < wires) (e : v ≡ get_or scratch i 0) where
-    pub wire_at : get_or (take wires scratch) i 0 ≡ v
-    wire_at = get_or-take wires scratch i 0 h ∙ sym e
-
-    in_order : i < length (take wires scratch)
-    in_order = omega (arith, length-take-le wires scratch w.few)
-
-    pub wire_below : v < n
-    wire_below = omega (arith, (w.order.wires i in_order).0, circuit_length t n, wire_at)
-
-    -- what stands at place i of the order is a wire
-    pub wire_evaluable : {cells' : List ℕ} → length cells' ≡ length cells → Evaluable L wire t n cells' v
-    wire_evaluable long =
-        record {
-          store = lent_long w.store long;
-          below = wire_below;
-          is = subst (λ (u : ℕ). role (record_of (circuit t n) u) ≡ wire) wire_at (w.order.wires i in_order).1;
-        }
-
-  -- ---- the registers
-
-  module _ {room : ℕ} {scratch : List ℕ} {wires registers : ℕ} {cells : List ℕ}
-      (r : Ready L room t n scratch wires registers cells) where
-    module _ {j v : ℕ} (h : j < registers) (e : v ≡ get_or scratch (wires + j) 0) where
-      listed : j < length (register_list (circuit t n))
-      listed = omega (arith, r.all_registers)
-
-      pub register_at : v ≡ get_or (register_list (circuit t n)) j 0
-      register_at = e ∙ r.listed j listed
-
-      pub register_below : v < n
-      register_below =
-          omega (arith, (register_list_register (circuit t n) j listed).0, circuit_length t n, register_at)
-
-      -- what stands at register j's place is that register
-      pub register_evaluable : {cells' : List ℕ} → length cells' ≡ length cells → Evaluable L register t n cells' v
-      register_evaluable long =
-          record {
-            store = lent_long r.wired.store long;
-            below = register_below;
-            is =
-                subst (λ (u : ℕ). role (record_of (circuit t n) u) ≡ register) (sym register_at)
-                (register_list_register (circuit t n) j listed).1;
-          }
-
-    -- ---- while others are written
-
-    pub ready_long : {cells' : List ℕ} → length cells' ≡ length cells
-        → Ready L room t n scratch wires registers cells'
-    ready_long e =
-        record {
-          wired = wired_long r.wired e;
-          scratch_long = r.scratch_long;
-          fits = r.fits;
-          all_registers = r.all_registers;
-          listed = r.listed;
-        }
-
-    pub ready_kept : {from to : ℕ} {scratch' : List ℕ} → n ≤ from → KeptOutside from to scratch scratch'
-        → Ready L room t n scratch' wires registers cells
-    ready_kept {scratch' = scratch'} low kept =
-        record {
-          wired = record {
-            store = r.wired.store;
-            few = omega (arith, kept.long, r.wired.few);
-            order =
-                subst (λ (l : List ℕ). Ordered (circuit t n) l)
-                (ext_get_or 0 (take wires scratch) (take wires scratch') (here ∙ sym there)
-                (λ i l.
-                let k : i < wires = omega (arith, here) in
-                get_or-take wires scratch i 0 k
-                ∙ sym (get_or-take wires scratch' i 0 k ∙ kept.before i (omega (arith, r.fits)))))
-                r.wired.order;
-          };
-          scratch_long = omega (arith, kept.long, r.scratch_long);
-          fits = r.fits;
-          all_registers = r.all_registers;
-          listed = λ j l. kept.before (wires + j) (omega (arith, r.fits, r.all_registers)) ∙ r.listed j l;
-        }
-      where
-        here : length (take wires scratch) ≡ wires
-        here = length-take-le wires scratch r.wired.few
-
-        there : length (take wires scratch') ≡ wires
-        there = length-take-le wires scratch' (omega (arith, kept.long, r.wired.few))
-
   -- a schedule's order leaves a checked table ready
   pub ordered_ready : {room : ℕ} {entry scratch : List ℕ} {wires registers : ℕ} {cells : List ℕ}
       → StoreLent L t n cells → 1 ≤ room → IsOrder (circuit t n) (n * room) entry scratch wires registers

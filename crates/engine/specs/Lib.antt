@@ -1,2 +1,5 @@
+pub mod Facts
+pub mod Plans
 pub mod Ready
 pub mod Registers
+pub mod Rules

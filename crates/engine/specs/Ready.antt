@@ -36,3 +36,10 @@ pub record Ready {A : Type 0} (L : Layout A) (room : ℕ) (t : List ℕ) (n : �
   pub fits : wires + registers ≤ n
   pub all_registers : registers ≡ length (register_list (circuit t n))
   pub listed : Listed (circuit t n) scratch wires
+
+-- the wires of a table stand in front of a buffer, in their order, and its registers behind them
+pub record InOrder (t : List ℕ) (n : ℕ) (order : List ℕ) (wires registers : ℕ) : Type 0 where
+  pub fits : wires + registers ≤ length order
+  pub ordered : Ordered (circuit t n) (take wires order)
+  pub all_registers : registers ≡ length (register_list (circuit t n))
+  pub listed : Listed (circuit t n) order wires

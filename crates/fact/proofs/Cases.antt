@@ -6,7 +6,7 @@ use mathlib.Core.List.{List, [], ◌∷◌, flatten}
 use Prim.Native.Nat.{ℕ}
 use lib.ListN.{length}
 use Rattle.net.specs.Tests.{all_below, every}
-use Rattle.circuit.specs.declared.refusal.Check.TheVariants.{Passed}
+use Rattle.circuit.specs.Refusal.{passed}
 use Rattle.circuit.specs.Circuit.{circuit, NoLoop}
 use Rattle.circuit.specs.Checks.{check_records}
 use Rattle.circuit.proofs.Tables.{Falls, falling_no_loop}
@@ -27,7 +27,7 @@ abbrev behind_four : List ℕ
 behind_four = 0 ∷ 0 ∷ 0 ∷ 0 ∷ 1 ∷ 1 ∷ 1 ∷ 1 ∷ 1 ∷ 1 ∷ 1 ∷ 1 ∷ 1 ∷ 1 ∷ []
 
 -- no row of a case's table is a loop, by numbers that fall
-no_loop : (x : Case) (ranks : List ℕ) → check_records (flatten x.records) (length x.records) ≡ Passed
+no_loop : (x : Case) (ranks : List ℕ) → check_records (flatten x.records) (length x.records) ≡ passed
     → Falls (flatten x.records) (length x.records) ranks
     → NoLoop (circuit (flatten x.records) (length x.records))
 no_loop x = falling_no_loop (flatten x.records) (length x.records)

@@ -3,7 +3,7 @@
 -- Assumes nothing.
 use Rattle.std.specs.Prelude.{◌≡◌, Bool, true, false, ℕ, ◌*◌, eqb, length}
 use mathlib.Core.List.{List, [], ◌∷◌, flatten, map}
-use Rattle.circuit.specs.declared.refusal.Check.TheVariants.{Passed}
+use Rattle.circuit.specs.Refusal.{passed}
 use Rattle.circuit.specs.Refusal.{◌then◌}
 use Rattle.circuit.specs.Circuit.{circuit, NoLoop}
 use Rattle.circuit.specs.Checks.{check_length, check_records}
@@ -23,7 +23,7 @@ pub record Case : Type 0 where
 abbrev pub CaseHolds : List ℕ → ℕ → Case → Type 0
 CaseHolds t n x =
     (length t ≡ n * 16)
-    × ((check_length (length t) then check_records t n) ≡ Passed)
+    × ((check_length (length t) then check_records t n) ≡ passed)
     × NoLoop (circuit t n)
     × (rounds (circuit t n) ≡ x.rounds)
     × (eqb (rounds (circuit t n)) (2 * registers (circuit t n)) ≡ x.bound_met)

@@ -23,8 +23,7 @@ pub fn number(f: Fact) -> u32
 {
     match f {
         Fact::Always(n) => n,
-        Fact::Open => 0,
-        Fact::Marked => 0,
+        Fact::Open | Fact::Marked => 0,
     }
 }
 
@@ -36,10 +35,9 @@ pub fn load(cells: &[u8], v: usize) -> Fact
     let n = u32_at(cells, v * 8 + 4);
     let kind = cells[v * 8];
     match kind {
-        0 => Fact::MARKED,
         1 => Fact::Always(n),
         2 => Fact::Open,
-        3..=255 => Fact::MARKED,
+        _ => Fact::MARKED,
     }
 }
 
@@ -49,14 +47,13 @@ pub fn store(cells: &mut [u8], v: usize, f: Fact)
     ensures { Wrote facts cells.old cells.new (v * 8) f }
 {
     let at = v * 8;
-    let kind = byte(f);
-    let n = number(f);
-    cells[at] = kind;
+    let [a, b, c, d] = number(f).to_le_bytes();
+    cells[at] = byte(f);
     cells[at + 1] = 0;
     cells[at + 2] = 0;
     cells[at + 3] = 0;
-    cells[at + 4] = (n % 256) as u8;
-    cells[at + 5] = (n / 256 % 256) as u8;
-    cells[at + 6] = (n / 65536 % 256) as u8;
-    cells[at + 7] = (n / 16777216 % 256) as u8;
+    cells[at + 4] = a;
+    cells[at + 5] = b;
+    cells[at + 6] = c;
+    cells[at + 7] = d;
 }

@@ -4,17 +4,17 @@
 
 pub mod cell;
 
-ghost use Rattle.std.specs.Prelude.{◌≡◌, false, ◌≤◌, eqb};
+ghost use Rattle.std.specs.Prelude.{◌≡◌, false, eqb};
 ghost use Rattle.circuit.specs.Operator as operators;
-ghost use Rattle.circuit.specs.Powers.{Powers};
 ghost use Rattle.fact.specs.Fact as facts;
 ghost use Rattle.fact.specs.Rule as rules;
 
-use circuit::operator::{Operator, PowerTable, evaluate, operator_code, power_in, remainder};
+use circuit::operator::{Operator, evaluate, operator_code};
 use circuit::record::InputKind;
+use circuit::width::Width;
 
 // What is known of a variable: it always holds one number, it is open, or it is marked, as a secret input can reach it.
-#[derive(Clone, Copy)]
+#[derive(Clone, Copy, PartialEq, Eq)]
 pub enum Fact {
     Always(u32),
     Open,
@@ -25,14 +25,12 @@ impl Fact {
     // The highest fact.
     pub const MARKED: Fact = Fact::Marked;
 
-    // The fact at width w, whose power is in the table.
-    pub fn narrow(self, w: u8, powers: &PowerTable) -> Fact
-        requires w_bound { w ≤ 32 }
-        requires powers { Powers powers.now }
-        ensures { result ≡ facts.narrow w self }
+    // The fact at a width.
+    pub fn narrow(self, width: Width) -> Fact
+        ensures { result ≡ facts.narrow width.bits self }
     {
         match self {
-            Fact::Always(n) => Fact::Always(remainder(n, w, power_in(powers, w))),
+            Fact::Always(n) => Fact::Always(width.remainder(n)),
             Fact::Open => Fact::Open,
             Fact::Marked => Fact::MARKED,
         }
@@ -42,18 +40,10 @@ impl Fact {
     pub fn join(self, other: Fact) -> Fact
         ensures { result ≡ facts.join self other }
     {
-        match self {
-            Fact::Always(m) => match other {
-                Fact::Always(n) => if m == n { Fact::Always(m) } else { Fact::Open },
-                Fact::Open => Fact::Open,
-                Fact::Marked => Fact::MARKED,
-            },
-            Fact::Open => match other {
-                Fact::Always(_) => Fact::Open,
-                Fact::Open => Fact::Open,
-                Fact::Marked => Fact::MARKED,
-            },
-            Fact::Marked => Fact::MARKED,
+        match (self, other) {
+            (Fact::Always(m), Fact::Always(n)) if m == n => Fact::Always(m),
+            (Fact::Marked, _) | (_, Fact::Marked) => Fact::MARKED,
+            _ => Fact::Open,
         }
     }
 
@@ -63,8 +53,7 @@ impl Fact {
     {
         match self {
             Fact::Always(n) => Fact::Always(n),
-            Fact::Open => Fact::MARKED,
-            Fact::Marked => Fact::MARKED,
+            Fact::Open | Fact::Marked => Fact::MARKED,
         }
     }
 }
@@ -80,13 +69,11 @@ pub fn input_rule(kind: InputKind) -> Fact
     }
 }
 
-// An operator's result at width w, whose power is in the table.
-fn operator_result(op: Operator, w: u8, a: u32, b: u32, powers: &PowerTable) -> u32
-    requires w_bound { w ≤ 32 }
-    requires powers { Powers powers.now }
-    ensures { result ≡ operators.result op w a b }
+// An operator's result at a width.
+fn operator_result(op: Operator, width: Width, a: u32, b: u32) -> u32
+    ensures { result ≡ operators.result op width.bits a b }
 {
-    evaluate(operator_code(op), w, a, b, power_in(powers, w))
+    evaluate(operator_code(op), width, a, b)
 }
 
 // Whether a known zero decides the operator, by whether A is one and whether B is.
@@ -94,15 +81,10 @@ fn zero_decides(op: Operator, a: bool, b: bool) -> bool
     ensures { result ≡ rules.zero_decides op a b }
 {
     match op {
-        Operator::Add => false,
-        Operator::Sub => false,
-        Operator::And => if a { true } else { b },
-        Operator::Or => false,
-        Operator::Xor => false,
-        Operator::Equal => false,
+        Operator::And => a || b,
         Operator::Less => b,
-        Operator::ShiftLeft => a,
-        Operator::ShiftRight => a,
+        Operator::ShiftLeft | Operator::ShiftRight => a,
+        Operator::Add | Operator::Sub | Operator::Or | Operator::Xor | Operator::Equal => false,
     }
 }
 
@@ -128,54 +110,25 @@ fn b_decides(op: Operator, b: u32) -> bool
 
 // An operator's rule, on the facts of A and B. Of two numbers it is always their result, which is 0 where a zero
 // decides.
-pub fn operator_rule(op: Operator, w: u8, a: Fact, b: Fact, powers: &PowerTable) -> Fact
-    requires w_bound { w ≤ 32 }
-    requires powers { Powers powers.now }
-    ensures { result ≡ rules.operator_rule op w a b }
+#[tactic(auto, using(crate::proofs::Zeros::known_both))]
+pub fn operator_rule(op: Operator, width: Width, a: Fact, b: Fact) -> Fact
+    ensures { result ≡ rules.operator_rule op width.bits a b }
 {
-    match a {
-        Fact::Always(x) => match b {
-            Fact::Always(y) => Fact::Always(operator_result(op, w, x, y, powers)),
-            Fact::Open => if a_decides(op, x) {
-                Fact::Always(0)
-            } else {
-                Fact::Open
-            },
-            Fact::Marked => if a_decides(op, x) {
-                Fact::Always(0)
-            } else {
-                Fact::MARKED
-            },
-        },
-        Fact::Open => match b {
-            Fact::Always(y) => if b_decides(op, y) {
-                Fact::Always(0)
-            } else {
-                Fact::Open
-            },
-            Fact::Open => Fact::Open,
-            Fact::Marked => Fact::MARKED,
-        },
-        Fact::Marked => match b {
-            Fact::Always(y) => if b_decides(op, y) {
-                Fact::Always(0)
-            } else {
-                Fact::MARKED
-            },
-            Fact::Open => Fact::MARKED,
-            Fact::Marked => Fact::MARKED,
-        },
+    match (a, b) {
+        (Fact::Always(x), Fact::Always(y)) => Fact::Always(operator_result(op, width, x, y)),
+        (Fact::Always(x), _) if a_decides(op, x) => Fact::Always(0),
+        (_, Fact::Always(y)) if b_decides(op, y) => Fact::Always(0),
+        (Fact::Marked, _) | (_, Fact::Marked) => Fact::MARKED,
+        _ => Fact::Open,
     }
 }
 
 // A multiplexer's rule, on the facts of A, B and C.
-pub fn multiplexer_rule(w: u8, a: Fact, b: Fact, c: Fact, powers: &PowerTable) -> Fact
-    requires w_bound { w ≤ 32 }
-    requires powers { Powers powers.now }
-    ensures { result ≡ rules.multiplexer_rule w a b c }
+pub fn multiplexer_rule(width: Width, a: Fact, b: Fact, c: Fact) -> Fact
+    ensures { result ≡ rules.multiplexer_rule width.bits a b c }
 {
-    let narrow_b = b.narrow(w, powers);
-    let narrow_c = c.narrow(w, powers);
+    let narrow_b = b.narrow(width);
+    let narrow_c = c.narrow(width);
     match a {
         Fact::Always(n) => if n == 0 { narrow_c } else { narrow_b },
         Fact::Open => narrow_b.join(narrow_c),
@@ -184,21 +137,17 @@ pub fn multiplexer_rule(w: u8, a: Fact, b: Fact, c: Fact, powers: &PowerTable) -
 }
 
 // A register's rule, on the fact of A.
-pub fn register_rule(w: u8, n: u32, a: Fact, powers: &PowerTable) -> Fact
-    requires w_bound { w ≤ 32 }
-    requires powers { Powers powers.now }
-    ensures { result ≡ rules.register_rule w n a }
+pub fn register_rule(width: Width, n: u32, a: Fact) -> Fact
+    ensures { result ≡ rules.register_rule width.bits n a }
 {
-    a.narrow(w, powers).join(Fact::Always(n))
+    a.narrow(width).join(Fact::Always(n))
 }
 
 // The rule of a register with an enable, on the facts of A and B.
-pub fn enabled_rule(w: u8, n: u32, a: Fact, b: Fact, powers: &PowerTable) -> Fact
-    requires w_bound { w ≤ 32 }
-    requires powers { Powers powers.now }
-    ensures { result ≡ rules.enabled_rule w n a b }
+pub fn enabled_rule(width: Width, n: u32, a: Fact, b: Fact) -> Fact
+    ensures { result ≡ rules.enabled_rule width.bits n a b }
 {
-    let plain = register_rule(w, n, a, powers);
+    let plain = register_rule(width, n, a);
     match b {
         Fact::Always(m) => if m == 0 { Fact::Always(n) } else { plain },
         Fact::Open => plain,

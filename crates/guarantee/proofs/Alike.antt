@@ -8,12 +8,12 @@ use Prim.Native.Nat.{ℕ, zero, suc, ◌+◌, ◌*◌, ◌/◌, ◌<◌, suc-le-
 use native.Mathlib.Omega.{arith}
 use lib.Dec.{T}
 use lib.ListN.{length}
+use Rattle.std.specs.Prelude.{Ok}
 use Rattle.net.specs.declared.Stimulus.{Stimulus}
 use Rattle.net.specs.declared.Stimulus.TheVariants.{Poke}
 use Rattle.net.specs.Net.{list_below}
 use Rattle.net.specs.Machine.{Alike, none, ticks, pokes}
-use Rattle.circuit.specs.declared.refusal.Check.TheVariants.{Passed}
-use Rattle.circuit.specs.declared.stimulus.ReadStimulus.TheVariants.{Read}
+use Rattle.circuit.specs.Refusal.{passed}
 use Rattle.circuit.specs.Number.{u16_at, u32_at}
 use Rattle.circuit.specs.Record.{input_of}
 use Rattle.circuit.specs.Reading.{fields_at}
@@ -48,23 +48,23 @@ module _ (t s s' : List ℕ) (n : ℕ) where
   Same v x y = (x ≡ y) ⊎ T (is_secret (input_of (record_of c v)))
 
   -- the values of two pokes of one variable
-  values_alike : (v x y y' : ℕ) → check_stimulus c (Read (Poke v x)) 0 ≡ Passed → (y ≡ y') ⊎ SecretInput t v
+  values_alike : (v x y y' : ℕ) → check_stimulus c (Ok (Poke v x)) 0 ≡ passed → (y ≡ y') ⊎ SecretInput t v
       → Same v y y'
   values_alike v x y y' e (inl q) = inl q
   values_alike v x y y' e (inr q) =
       inr (secret_read t n v (omega (arith, (poke_passed c v x 0 e).below, circuit_length t n)) q)
 
   -- both stimuli at a place, in front of two alike lists
-  alike_at : (at : ℕ) → check_stimulus c (Read (stimulus_at s at)) 0 ≡ Passed → BothTick s s' at ⊎ BothPoke t s s' at
+  alike_at : (at : ℕ) → check_stimulus c (Ok (stimulus_at s at)) 0 ≡ passed → BothTick s s' at ⊎ BothPoke t s s' at
       → (xs ys : List Stimulus) → Alike Same xs ys → Alike Same (stimulus_at s at ∷ xs) (stimulus_at s' at ∷ ys)
   alike_at at e (inl (tick, tick')) xs ys h = rw (tick, tick') (ticks h)
   alike_at at e (inr p) xs ys h =
-      let passed : check_stimulus c (Read (Poke (u16_at s (at + 2)) (u32_at s (at + 4)))) 0 ≡ Passed =
+      let here : check_stimulus c (Ok (Poke (u16_at s (at + 2)) (u32_at s (at + 4)))) 0 ≡ passed =
       rw p.pokes.0 at e in
-      rw (p.pokes.0, p.pokes.1, ← p.same_variable) (pokes (values_alike _ _ _ _ passed p.same_value) h)
+      rw (p.pokes.0, p.pokes.1, ← p.same_variable) (pokes (values_alike _ _ _ _ here p.same_value) h)
 
   -- lists that are alike in bytes are alike
-  pub lists_alike : check_stimuli c s ≡ Passed → AlikeStimuli t s s' → AlikeLists c (stimuli s) (stimuli s')
+  pub lists_alike : check_stimuli c s ≡ passed → AlikeStimuli t s s' → AlikeLists c (stimuli s) (stimuli s')
   unfolding stimuli
   lists_alike e a =
       subst (λ (k : ℕ). AlikeLists c (stimuli s) (list_below (λ i. stimulus_at s' (i * 8)) (k / 8))) a.equally_long

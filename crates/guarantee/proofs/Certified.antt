@@ -5,6 +5,7 @@ use mathlib.Core.Path.{◌≡◌, refl, ap, ◌∙◌}
 use mathlib.Core.List.{List}
 use Prim.Native.Nat.{ℕ, ◌+◌, ◌*◌, ◌/◌, ◌<◌}
 use lib.ListN.{length, drop, get_or}
+use Rattle.std.specs.Prelude.{Ok}
 use Rattle.net.specs.Net.{list_below, after, stopped}
 use Rattle.net.proofs.Lists.{length_list_below, get_or_list_below}
 use Rattle.net.proofs.Rounds.{counts_unique}
@@ -18,12 +19,11 @@ use Rattle.fact.specs.Certificate.{initial_store, rounds, certificate}
 use Rattle.fact.proofs.Certificate.{least_unique, certificate_least, rounds_counted}
 use Rattle.call.specs.Call.{lent, left, output_of}
 use Rattle.call.proofs.Parts.{table_checked}
-use Rattle.certificate.specs.declared.Certified.TheVariants as certified
 use Rattle.certificate.specs.Promise.{certifying, Certifies}
 use Rattle.trim.proofs.Bytes.{part_at}
 
 module _ {t cells scratch cells' scratch' : List ℕ} {k : ℕ}
-    (p : Certifies (lent t cells scratch) (left cells' scratch') (certified.Accepted k)) where
+    (p : Certifies (lent t cells scratch) (left cells' scratch') (Ok k)) where
   abbrev n : ℕ
   n = length t / 16
 

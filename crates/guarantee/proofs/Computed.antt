@@ -5,9 +5,10 @@ use mathlib.Core.Path.{◌≡◌, refl, sym, ap, ◌∙◌, subst}
 use mathlib.Core.List.{List, [], ◌∷◌, ◌++◌, flat_map}
 use Prim.Native.Nat.{ℕ, ◌*◌, ◌≤◌, ◌<◌}
 use lib.ListN.{length, drop, get_or}
+use Rattle.std.specs.Prelude.{Ok}
 use Rattle.net.specs.Net.{list_below, after, Counts}
 use Rattle.net.proofs.Lists.{get_or_list_below}
-use Rattle.circuit.specs.declared.refusal.Check.TheVariants.{Passed}
+use Rattle.circuit.specs.Refusal.{passed}
 use Rattle.circuit.specs.Circuit.{Circuit, graph, NoLoop}
 use Rattle.circuit.proofs.Tables.{Inside, circuit_length, circuit_inside}
 use Rattle.fact.specs.declared.Fact.{Fact}
@@ -19,19 +20,18 @@ use Rattle.fact.specs.Certificate.{initial_store, registers, rounds}
 use Rattle.fact.proofs.Certificate.{least_agree, certificate_least, rounds_counted, rounds_few}
 use Rattle.call.specs.Call.{Lent, left, output_of, size, circuit_of, checked, scratch_cleared}
 use Rattle.call.proofs.Parts.{table_checked}
-use Rattle.certificate.specs.declared.Certified.TheVariants as certified
 use Rattle.certificate.specs.Promise.{certifying, Certifies}
 
-pub certified_computed : (l : Lent) (cells : List ℕ) (k : ℕ) → checked certifying l ≡ Passed → NoLoop (circuit_of l)
+pub certified_computed : (l : Lent) (cells : List ℕ) (k : ℕ) → checked certifying l ≡ passed → NoLoop (circuit_of l)
     → rounds (circuit_of l) ≡ k
     → list_below (fact_at cells) (size l) ≡ list_below (definition.certificate (circuit_of l)) (size l)
     → cells ≡ flat_map fact_bytes
     (list_below (after (graph (circuit_of l)) (rule (circuit_of l)) k (initial_store (circuit_of l))) (size l))
     ++ drop (size l * 8) (output_of l.outputs)
-    → Certifies l (left cells (scratch_cleared certifying l)) (certified.Accepted k)
-certified_computed l cells k passed none count facts bytes =
+    → Certifies l (left cells (scratch_cleared certifying l)) (Ok k)
+certified_computed l cells k ok none count facts bytes =
     record {
-      past = record { passed = passed; no_loop = none; scratch = refl };
+      past = record { passed = ok; no_loop = none; scratch = refl };
       later = refl;
       accepts = record {
         counts = subst (λ (j : ℕ). Counts (graph c) (rule c) (initial_store c) j) count (rounds_counted c inside none);
@@ -45,7 +45,7 @@ certified_computed l cells k passed none count facts bytes =
     c = circuit_of l
 
     inside : Inside c
-    inside = circuit_inside l.table (size l) (table_checked certifying l passed).valid
+    inside = circuit_inside l.table (size l) (table_checked certifying l ok).valid
 
     same : (v : ℕ) → v < length c → fact_at cells v ≡ definition.certificate c v
     same v below =

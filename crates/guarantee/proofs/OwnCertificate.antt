@@ -9,9 +9,10 @@ use borrow.Author.Tests.{le-ltb}
 use lib.Dec.{lit<}
 use lib.ListN.{length, take, drop, get_or, length-append}
 use lib.Seq.{get_or-take, length-take-le}
+use Rattle.std.specs.Prelude.{Ok}
 use Rattle.net.specs.Net.{list_below, after}
 use Rattle.net.proofs.Lists.{length_list_below}
-use Rattle.circuit.specs.declared.refusal.Check.TheVariants.{Passed}
+use Rattle.circuit.specs.Refusal.{passed}
 use Rattle.circuit.specs.Record.{width}
 use Rattle.circuit.specs.Circuit.{Circuit, circuit, record_of, graph}
 use Rattle.circuit.specs.Checks.{check_length, Checked}
@@ -22,12 +23,9 @@ use Rattle.fact.specs.declared.Fact.TheVariants.{Always, Open, Marked}
 use Rattle.fact.specs.Fact.{fact_byte, fact_bytes, fact_at}
 use Rattle.fact.specs.Rule.{rule}
 use Rattle.fact.specs.Certificate.{initial_store, certificate}
-use Rattle.call.specs.Call.{Left, lent, left, output_of, checked}
+use Rattle.call.specs.Call.{Left, Answer, lent, left, output_of, checked}
 use Rattle.call.proofs.Parts.{table_checked}
-use Rattle.certificate.specs.declared.Certified.TheVariants as certified
 use Rattle.certificate.specs.Promise.{certifying, Certifies}
-use Rattle.trim.specs.declared.Trimmed.{Trimmed}
-use Rattle.trim.specs.declared.Trimmed.TheVariants as trim
 use Rattle.trim.specs.Ready.{FactFits}
 use Rattle.trim.specs.Promise as trim-call
 use Rattle.trim.specs.Promise.{trimming, CallTrims}
@@ -35,7 +33,6 @@ use Rattle.trim.proofs.Passing.{trim_passes}
 use Rattle.trim.proofs.Validity.{circuit_valid}
 use Rattle.trim.proofs.Own.{certificate_fits}
 use Rattle.trim.proofs.Bytes.{parts_length}
-use Rattle.trim.proofs.Promise.{answer_told}
 use Rattle.guarantee.proofs.Certified.{fact_written}
 use Rattle.guarantee.proofs.Passing.{call_accepted}
 use Rattle.guarantee.proofs.Trimming.{facts_own}
@@ -46,7 +43,7 @@ byte_range Open = (omega arith, omega arith)
 byte_range Marked = (omega arith, omega arith)
 
 module _ {t cells scratch cells' scratch' : List ℕ} {rounds : ℕ}
-    (p : Certifies (lent t cells scratch) (left cells' scratch') (certified.Accepted rounds)) where
+    (p : Certifies (lent t cells scratch) (left cells' scratch') (Ok rounds)) where
   abbrev n : ℕ
   n = length t / 16
 
@@ -87,20 +84,17 @@ module _ {t cells scratch cells' scratch' : List ℕ} {rounds : ℕ}
   module _ (kept first second scratch₁ : List ℕ) (below : (i : ℕ) → i < length kept → get_or kept i 0 < length t / 16)
       (long : length t ≤ length first) (many : length t / 16 ≤ length second)
       (room : length t / 16 * 4 ≤ length scratch₁) where
-    passes : checked (trimming own kept) (trim-call.lent t first second scratch₁) ≡ Passed
+    passes : checked (trimming own kept) (trim-call.lent t first second scratch₁) ≡ passed
     passes =
         rw ((then_passed (check_length (length t)) _ p.past.passed).0, le-ltb (length scratch₁) (n * 4) room)
         table.valid
 
     -- a trimming call by the certificate is accepted
-    pub own_accepted : (e : Left) (r : Trimmed)
+    pub own_accepted : (e : Left) (r : Answer)
         → CallTrims (take (length t / 16 * 8) cells') kept (trim-call.lent t first second scratch₁) e r
-        → (k : ℕ) × (r ≡ trim.Accepted k)
+        → (k : ℕ) × (r ≡ Ok k)
     own_accepted e r q =
-        let (k, is) =
-        call_accepted (trimming own kept) (trim-call.lent t first second scratch₁) e (trim-call.answer_of r) passes
-        p.past.no_loop
+        call_accepted (trimming own kept) (trim-call.lent t first second scratch₁) e r passes p.past.no_loop
         (trim_passes t own kept (length first) (length second) below long many own_length
         (λ v h. let (least, most) = byte_range (certificate c v) in
-        (rw (own_byte v h) least, rw (own_byte v h) most, own_fits v h))) q in
-        (k, answer_told r (trim.Accepted k) is)
+        (rw (own_byte v h) least, rw (own_byte v h) most, own_fits v h))) q

@@ -9,7 +9,7 @@ use lib.ListN.{length, get_or}
 use Rattle.net.specs.declared.Stimulus.{Stimulus}
 use Rattle.net.specs.Net.{Graph, list_below}
 use Rattle.net.specs.Machine.{Renumbered, none, ticks, pokes}
-use Rattle.circuit.specs.declared.refusal.Check.TheVariants.{Passed}
+use Rattle.circuit.specs.Refusal.{passed}
 use Rattle.circuit.specs.Number.{u16_at}
 use Rattle.circuit.specs.Circuit.{Circuit, graph, NoLoop}
 use Rattle.circuit.specs.Stimuli.{stimulus_at, bad_stimulus, check_stimuli, stimuli}
@@ -70,15 +70,15 @@ module _ (c : Circuit) (kept : List ℕ) (inside : Inside c) (no_loop : NoLoop c
         (lists_below (Renumbered (graph c') (old_number c₁ kept)) (λ i. stimulus_at s (i * 8))
         (λ i. stimulus_at s' (i * 8)) (length s / 8) none here)
 
-    passed_here : check_stimuli c s ≡ Passed → (i : ℕ) → i < length s / 8 → PassedAt c' s' (i * 8)
+    passed_here : check_stimuli c s ≡ passed → (i : ℕ) → i < length s / 8 → PassedAt c' s' (i * 8)
     passed_here e i below =
-        let (good, passed) = stimulus_passed c s e i below in (
+        let (good, ok) = stimulus_passed c s e i below in (
           bad_same numbers k s s' (i * 8) (h.same i below) (h.variables i below) ∙ good,
-          (accepted_follows c kept inside no_loop (here i below [] [] none) (passed, tt)).0,
+          (accepted_follows c kept inside no_loop (here i below [] [] none) (ok, tt)).0,
         )
 
     -- it passes where the list does
-    pub renumbered_passes : check_stimuli c s ≡ Passed → check_stimuli c' s' ≡ Passed
+    pub renumbered_passes : check_stimuli c s ≡ passed → check_stimuli c' s' ≡ passed
     renumbered_passes e =
         let (whole, few) = stimuli_lengths c s e in
         stimuli_pass c' s' (rw h.equally_long whole) (rw h.equally_long few)

@@ -10,13 +10,14 @@ use Prim.Native.Nat.{ℕ, zero, suc, ◌+◌, ◌*◌, ◌/◌, ◌%◌, ◌^◌
 use native.Mathlib.Omega.{arith}
 use lib.Dec.{lit<}
 use lib.ListN.{length, take, get_or, get_or-eq_default}
+use Rattle.std.specs.Prelude.{Result, Ok}
 use Rattle.net.specs.declared.Stimulus.{Stimulus}
 use Rattle.net.specs.declared.Stimulus.TheVariants.{Poke, Tick}
 use Rattle.net.proofs.Cases.{by_le}
 use Rattle.net.proofs.Lists.{length_list_below, get_or_list_below}
 use Rattle.circuit.specs.declared.record.Record.{Record}
-use Rattle.circuit.specs.declared.refusal.Check.TheVariants.{Passed}
-use Rattle.circuit.specs.declared.stimulus.ReadStimulus.TheVariants.{Read}
+use Rattle.circuit.specs.declared.refusal.Refusal.{Refusal}
+use Rattle.circuit.specs.Refusal.{passed}
 use Rattle.circuit.specs.Number.{u16_at}
 use Rattle.circuit.specs.Record.{input_of}
 use Rattle.circuit.specs.Circuit.{Circuit, circuit, record_of}
@@ -28,12 +29,8 @@ use Rattle.fact.specs.declared.Fact.{Fact}
 use Rattle.fact.specs.Certificate.{certificate}
 use Rattle.call.specs.Call.{lent, left}
 use Rattle.call.proofs.Parts.{table_checked}
-use Rattle.certificate.specs.declared.Certified.TheVariants as certified
 use Rattle.certificate.specs.Promise.{certifying, Certifies}
-use Rattle.machine.specs.declared.Benched.{Benched}
-use Rattle.machine.specs.declared.Benched.TheVariants as benched
 use Rattle.machine.specs.Promise.{Benches}
-use Rattle.trim.specs.declared.Trimmed.TheVariants as trim
 use Rattle.trim.specs.Promise as trim-call
 use Rattle.trim.specs.Promise.{CallTrims}
 use Rattle.trim.specs.Trimmed.{replaced, new_number, trimmed}
@@ -132,7 +129,7 @@ module _ (c : Circuit) (store : ℕ → Fact) (kept numbers : List ℕ) (k : ℕ
   module _ (size : k ≡ length (trimmed called kept))
       (olds : (j : ℕ) → j < k → get_or numbers j 0 ≡ old_number called kept j) where
     -- the variable of a poke that passes is an input, which has a new number
-    poke_numbered : (v x : ℕ) → check_stimulus c (Read (Poke v x)) 0 ≡ Passed
+    poke_numbered : (v x : ℕ) → check_stimulus c (Ok (Poke v x)) 0 ≡ passed
         → (new v < k) × (get_or numbers (new v) 0 ≡ v)
     poke_numbered v x e =
         let q = poke_passed c v x 0 e in
@@ -150,40 +147,40 @@ module _ (c : Circuit) (store : ℕ → Fact) (kept numbers : List ℕ) (k : ℕ
       variable i = renumbered_variable new s (i * 8)
 
       variable_at : (i : ℕ) → i < length s / 8 → (x : Stimulus) → StimulusNumbers s (i * 8) x
-          → check_stimulus c (Read x) 0 ≡ Passed
+          → check_stimulus c (Ok x) 0 ≡ passed
           → TickStays s (renumbered new s) (i * 8) ⊎ PokeRenumbered numbers k s (renumbered new s) (i * 8)
-      variable_at i h (Poke v x) p passed =
-          let (small, old) = poke_numbered v x passed in
+      variable_at i h (Poke v x) p ok =
+          let (small, old) = poke_numbered v x ok in
           let is : variable i ≡ new v = rw (p.kind, p.variable) in
           let now : u16_at (renumbered new s) (i * 8 + 2) ≡ new v = renumbered_u16 new s i h (omega arith) ∙ is in
           inr (record { poke = p.kind; below = rw now small; old = rw (now, p.variable) old })
-      variable_at i h Tick p passed =
+      variable_at i h Tick p ok =
           let is : variable i ≡ 0 = rw (p.kind, p.variable) in
           inl (p.kind, renumbered_u16 new s i h (omega arith) ∙ is ∙ sym p.variable)
 
       -- a list that passes, renumbered
-      renumbered_list : check_stimuli c s ≡ Passed → RenumberedStimuli numbers k s (renumbered new s)
+      renumbered_list : check_stimuli c s ≡ passed → RenumberedStimuli numbers k s (renumbered new s)
       renumbered_list e =
           record {
             equally_long = renumbered_length new s;
             same = renumbered_same new s;
             variables = λ i h.
-                let (good, passed) = stimulus_passed c s e i h in
+                let (good, ok) = stimulus_passed c s e i h in
                 let numbers_of =
                 (stimulus_read s (i * 8) (stimulus_at s (i * 8))).0
                 (ap (λ (bad : Bool). read_from bad (stimulus_at s (i * 8))) good) in
-                variable_at i h (stimulus_at s (i * 8)) numbers_of passed;
+                variable_at i h (stimulus_at s (i * 8)) numbers_of ok;
           }
 
 -- ---- the calls
 
 module _ {t cells scratch cells' scratch' : List ℕ} {rounds : ℕ}
-    (p : Certifies (lent t cells scratch) (left cells' scratch') (certified.Accepted rounds))
+    (p : Certifies (lent t cells scratch) (left cells' scratch') (Ok rounds))
     {kept first second scratch₁ first' numbers scratch₁' : List ℕ} {k : ℕ}
     (q : CallTrims (take (length t / 16 * 8) cells') kept (trim-call.lent t first second scratch₁)
-    (trim-call.left first' numbers scratch₁') (trim.Accepted k))
+    (trim-call.left first' numbers scratch₁') (Ok k))
     {s values scratch₂ values' scratch₂' : List ℕ}
-    (b : Benches s (lent t values scratch₂) (left values' scratch₂') benched.Accepted) where
+    (b : Benches s (lent t values scratch₂) (left values' scratch₂') (Ok tt)) where
   abbrev table : Circuit
   table = circuit t (length t / 16)
 
@@ -204,7 +201,7 @@ module _ {t cells scratch cells' scratch' : List ℕ} {rounds : ℕ}
 
   -- so the claim of a trimmed table is about every accepted list
   pub trimmed_runs : (s' : List ℕ) × RenumberedStimuli numbers k s s' × (AllBytes s → AllBytes s')
-      × ((values₁ scratch₃ values₁' scratch₃' : List ℕ) (r : Benched)
+      × ((values₁ scratch₃ values₁' scratch₃' : List ℕ) (r : Result Unit Refusal)
       → Benches s' (lent (take (k * 16) first') values₁ scratch₃) (left values₁' scratch₃') r
       → k ≤ length values₁ → k * 4 ≤ length scratch₃ → TrimmedAlike kept numbers k values' values₁' r)
   trimmed_runs =

@@ -7,8 +7,10 @@ use mathlib.Core.List.{List}
 use Prim.Native.Nat.{ℕ, ◌*◌, ◌/◌, ◌≤◌, ◌<◌}
 use native.Mathlib.Omega.{arith}
 use lib.ListN.{length, take, get_or}
+use Rattle.std.specs.Prelude.{Result, Ok}
 use Rattle.net.proofs.Loops.{member_get_or}
-use Rattle.circuit.specs.declared.refusal.Check.TheVariants.{Passed}
+use Rattle.circuit.specs.declared.refusal.Refusal.{Refusal}
+use Rattle.circuit.specs.Refusal.{passed}
 use Rattle.circuit.specs.Circuit.{Circuit, circuit}
 use Rattle.circuit.specs.Machine.{machine}
 use Rattle.circuit.specs.Stimuli.{check_stimuli, stimuli}
@@ -16,13 +18,9 @@ use Rattle.circuit.proofs.Tables.{circuit_length}
 use Rattle.circuit.proofs.Stimuli.{stimuli_accepted}
 use Rattle.fact.specs.Certificate.{certificate}
 use Rattle.call.specs.Call.{lent, left}
-use Rattle.certificate.specs.declared.Certified.TheVariants as certified
 use Rattle.certificate.specs.Promise.{Certifies}
-use Rattle.machine.specs.declared.Benched.{Benched}
-use Rattle.machine.specs.declared.Benched.TheVariants as benched
 use Rattle.machine.specs.Promise.{Benches}
 use Rattle.machine.proofs.Satisfied.{value_written}
-use Rattle.trim.specs.declared.Trimmed.TheVariants as trim
 use Rattle.trim.specs.Promise as trim-call
 use Rattle.trim.specs.Promise.{CallTrims}
 use Rattle.trim.specs.Trimmed.{replaced, new_number, trimmed}
@@ -38,12 +36,12 @@ use Rattle.guarantee.proofs.Certified.{certified_inside}
 use Rattle.guarantee.proofs.Trimming.{own_size, own_circuit, own_numbers, own_below}
 
 module _ {t cells scratch cells' scratch' : List ℕ} {rounds : ℕ}
-    (p : Certifies (lent t cells scratch) (left cells' scratch') (certified.Accepted rounds))
+    (p : Certifies (lent t cells scratch) (left cells' scratch') (Ok rounds))
     {kept first second scratch₁ first' numbers scratch₁' : List ℕ} {k : ℕ}
     (q : CallTrims (take (length t / 16 * 8) cells') kept (trim-call.lent t first second scratch₁)
-    (trim-call.left first' numbers scratch₁') (trim.Accepted k))
+    (trim-call.left first' numbers scratch₁') (Ok k))
     {s values scratch₂ values' scratch₂' : List ℕ}
-    (b : Benches s (lent t values scratch₂) (left values' scratch₂') benched.Accepted) where
+    (b : Benches s (lent t values scratch₂) (left values' scratch₂') (Ok tt)) where
   abbrev n : ℕ
   n = length t / 16
 
@@ -88,15 +86,15 @@ module _ {t cells scratch cells' scratch' : List ℕ} {rounds : ℕ}
 
   -- ---- the runs
 
-  module _ (s' values₁ scratch₃ values₁' scratch₃' : List ℕ) (r : Benched)
+  module _ (s' values₁ scratch₃ values₁' scratch₃' : List ℕ) (r : Result Unit Refusal)
       (b' : Benches s' (lent (take (k * 16) first') values₁ scratch₃) (left values₁' scratch₃') r)
       (output : k ≤ length values₁) (room : k * 4 ≤ length scratch₃) (h : RenumberedStimuli numbers k s s') where
-    later : check_stimuli (circuit t' (length t' / 16)) s' ≡ Passed
+    later : check_stimuli (circuit t' (length t' / 16)) s' ≡ passed
     later =
         rw (own_circuit p q)
         (renumbered_passes c kept (certified_inside p) p.past.no_loop numbers k size olds s s' h b.later)
 
-    accepted : r ≡ benched.Accepted
+    accepted : r ≡ Ok tt
     accepted =
         bench_accepted t' values₁ scratch₃ (trimmed_length_passes q) (trimmed_records_pass q) (trimmed_without_loop q)
         s' (left values₁' scratch₃') r (rw records output) (rw records room) later b'

@@ -5,14 +5,13 @@ use mathlib.Core.Path.{◌≡◌, sym, ap, ◌∙◌}
 use mathlib.Core.List.{List}
 use Prim.Native.Nat.{ℕ, ◌+◌, ◌*◌, ◌/◌, ◌<◌}
 use lib.ListN.{length, take, get_or}
+use Rattle.std.specs.Prelude.{Ok}
 use Rattle.circuit.specs.Circuit.{Circuit, circuit}
 use Rattle.fact.specs.declared.Fact.{Fact}
 use Rattle.fact.specs.Fact.{fact_bytes}
 use Rattle.fact.specs.Certificate.{certificate}
 use Rattle.call.specs.Call.{lent, left}
-use Rattle.certificate.specs.declared.Certified.TheVariants as certified
 use Rattle.certificate.specs.Promise.{Certifies}
-use Rattle.trim.specs.declared.Trimmed.TheVariants as trim
 use Rattle.trim.specs.Promise as trim-call
 use Rattle.trim.specs.Promise.{CallTrims}
 use Rattle.trim.specs.Trimmed.{replaced, trimmed}
@@ -22,12 +21,12 @@ use Rattle.guarantee.proofs.Certified.{certified_inside, fact_written}
 use Rattle.guarantee.proofs.Trimming.{own_size, own_circuit, own_numbers, own_below}
 
 module _ {t cells scratch cells' scratch' : List ℕ} {rounds₁ : ℕ}
-    (p : Certifies (lent t cells scratch) (left cells' scratch') (certified.Accepted rounds₁))
+    (p : Certifies (lent t cells scratch) (left cells' scratch') (Ok rounds₁))
     {kept first second scratch₁ first' numbers scratch₁' : List ℕ} {k : ℕ}
     (q : CallTrims (take (length t / 16 * 8) cells') kept (trim-call.lent t first second scratch₁)
-    (trim-call.left first' numbers scratch₁') (trim.Accepted k))
+    (trim-call.left first' numbers scratch₁') (Ok k))
     {cells₂ scratch₂ cells₂' scratch₂' : List ℕ} {rounds₂ : ℕ}
-    (p' : Certifies (lent (take (k * 16) first') cells₂ scratch₂) (left cells₂' scratch₂') (certified.Accepted rounds₂))
+    (p' : Certifies (lent (take (k * 16) first') cells₂ scratch₂) (left cells₂' scratch₂') (Ok rounds₂))
   where
     abbrev c : Circuit
     c = circuit t (length t / 16)

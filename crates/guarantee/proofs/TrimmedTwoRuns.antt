@@ -7,6 +7,7 @@ use mathlib.Core.List.{List}
 use Prim.Native.Nat.{ℕ, ◌+◌, ◌*◌, ◌/◌, ◌%◌, ◌<◌}
 use native.Mathlib.Omega.{arith}
 use lib.ListN.{length, take, get_or}
+use Rattle.std.specs.Prelude.{Ok}
 use Rattle.net.proofs.Lists.{get_or_list_below}
 use Rattle.circuit.specs.Circuit.{Circuit, circuit}
 use Rattle.circuit.proofs.Tables.{Inside, circuit_length, circuit_inside}
@@ -15,11 +16,8 @@ use Rattle.fact.specs.Certificate.{LeastStore, certificate}
 use Rattle.fact.proofs.Cells.{facts_laws}
 use Rattle.fact.proofs.Certificate.{least_agree, certificate_least}
 use Rattle.call.specs.Call.{lent, left}
-use Rattle.certificate.specs.declared.Certified.TheVariants as certified
 use Rattle.certificate.specs.Promise.{Certifies}
-use Rattle.machine.specs.declared.Benched.TheVariants as benched
 use Rattle.machine.specs.Promise.{Benches}
-use Rattle.trim.specs.declared.Trimmed.TheVariants as trim
 use Rattle.trim.specs.Promise as trim-call
 use Rattle.trim.specs.Promise.{CallTrims}
 use Rattle.trim.specs.Trimmed.{replaced, trimmed}
@@ -43,10 +41,10 @@ line_byte numbers k cells j m below h =
     ∙ ap (λ (i : ℕ). get_or cells (get_or numbers j 0 * 8 + i) 0) byte
 
 module _ {t cells scratch cells' scratch' : List ℕ} {rounds : ℕ}
-    (p : Certifies (lent t cells scratch) (left cells' scratch') (certified.Accepted rounds))
+    (p : Certifies (lent t cells scratch) (left cells' scratch') (Ok rounds))
     {kept first second scratch₁ first' numbers scratch₁' : List ℕ} {k : ℕ}
     (q : CallTrims (take (length t / 16 * 8) cells') kept (trim-call.lent t first second scratch₁)
-    (trim-call.left first' numbers scratch₁') (trim.Accepted k)) where
+    (trim-call.left first' numbers scratch₁') (Ok k)) where
   abbrev n : ℕ
   n = length t / 16
 
@@ -84,8 +82,8 @@ module _ {t cells scratch cells' scratch' : List ℕ} {rounds : ℕ}
 
   -- demand 3 of the trimmed table: what the lines claim holds of two accepted runs on lists that are alike
   pub trimmed_two_runs : {s₁ values₁ scratch₂ values₁' scratch₂' s₂ values₂ scratch₃ values₂' scratch₃' : List ℕ}
-      → Benches s₁ (lent (take (k * 16) first') values₁ scratch₂) (left values₁' scratch₂') benched.Accepted
-      → Benches s₂ (lent (take (k * 16) first') values₂ scratch₃) (left values₂' scratch₃') benched.Accepted
+      → Benches s₁ (lent (take (k * 16) first') values₁ scratch₂) (left values₁' scratch₂') (Ok tt)
+      → Benches s₂ (lent (take (k * 16) first') values₂ scratch₃) (left values₂' scratch₃') (Ok tt)
       → AlikeStimuli (take (k * 16) first') s₁ s₂
       → ClaimsHold (take (k * 16) first') (survivor_lines numbers k cells') values₁' values₂'
   trimmed_two_runs =

@@ -7,6 +7,7 @@ use mathlib.Core.List.{[], ◌∷◌, flat_map}
 use Prim.Native.Nat.{ℕ, zero, suc, ◌+◌, ◌*◌, ◌/◌, ◌<◌}
 use native.Mathlib.Omega.{arith}
 use lib.ListN.{length, take, get_or}
+use Rattle.std.specs.Prelude.{Ok}
 use Rattle.net.specs.Tests.{all_below, every}
 use Rattle.net.specs.Net.{list_below, after}
 use Rattle.circuit.specs.Number.{u16_at}
@@ -19,11 +20,8 @@ use Rattle.circuit.proofs.Tables.{falling_no_loop}
 use Rattle.fact.specs.Rule.{rule}
 use Rattle.fact.specs.Certificate as definition
 use Rattle.fact.specs.Certificate.{initial_store, rounds}
-use Rattle.certificate.specs.declared.Certified.TheVariants as certified
 use Rattle.certificate.specs.Promise.{Certifies}
-use Rattle.machine.specs.declared.Benched.TheVariants as benched
 use Rattle.machine.specs.Promise.{Benches}
-use Rattle.trim.specs.declared.Trimmed.TheVariants as trim
 use Rattle.trim.specs.Trimmed.{replaced, survivors, new_number}
 use Rattle.trim.specs.Trimmed as trim-definition
 use Rattle.trim.specs.Order.{check_kept, check_certificate}
@@ -46,11 +44,11 @@ no_loop : NoLoop (circuit table 6)
 unfolding circuit check_records all_below every
 no_loop = falling_no_loop table 6 (1 ∷ 0 ∷ 0 ∷ 0 ∷ 1 ∷ 0 ∷ []) refl tt
 
-certified_once : Certifies (zeros table 48 12) (written certificate 12) (certified.Accepted 1)
+certified_once : Certifies (zeros table 48 12) (written certificate 12) (Ok 1)
 unfolding flat_map circuit check_records list_below rule initial_store after rounds definition.certificate
 certified_once = certified_computed (zeros table 48 12) certificate 1 refl no_loop refl refl refl
 
-trimmed_once : CallTrims (take 48 certificate) kept trim_lent trim_left (trim.Accepted 4)
+trimmed_once : CallTrims (take 48 certificate) kept trim_lent trim_left (Ok 4)
 unfolding flat_map circuit check_records check_kept check_certificate replaced survivors trim-definition.trimmed
 trimmed_once =
     record {
@@ -59,7 +57,7 @@ trimmed_once =
       accepts = record { count = refl; written = refl };
     }
 
-benched_once : Benches stimuli (zeros table 6 24) (written values 24) benched.Accepted
+benched_once : Benches stimuli (zeros table 6 24) (written values 24) (Ok tt)
 unfolding circuit check_records check_stimuli stimulus.stimuli list_below machine
 benched_once =
     record {
@@ -73,7 +71,7 @@ benched_once =
 no_loop' : NoLoop (circuit (take 64 trimmed) 4)
 no_loop' = trimmed_without_loop trimmed_once
 
-benched_trimmed : Benches stimuli' (zeros (take 64 trimmed) 4 16) (written values' 16) benched.Accepted
+benched_trimmed : Benches stimuli' (zeros (take 64 trimmed) 4 16) (written values' 16) (Ok tt)
 unfolding circuit check_records check_stimuli stimulus.stimuli list_below machine
 benched_trimmed =
     record {
@@ -82,7 +80,7 @@ benched_trimmed =
       accepts = record { no_number = refl; values = refl };
     }
 
-benched_other : Benches stimuli'' (zeros (take 64 trimmed) 4 16) (written values'' 16) benched.Accepted
+benched_other : Benches stimuli'' (zeros (take 64 trimmed) 4 16) (written values'' 16) (Ok tt)
 unfolding circuit check_records check_stimuli stimulus.stimuli list_below machine
 benched_other =
     record {
@@ -91,7 +89,7 @@ benched_other =
       accepts = record { no_number = refl; values = refl };
     }
 
-certified_trimmed : Certifies (zeros (take 64 trimmed) 32 8) (written certificate' 8) (certified.Accepted 1)
+certified_trimmed : Certifies (zeros (take 64 trimmed) 32 8) (written certificate' 8) (Ok 1)
 unfolding flat_map circuit check_records list_below rule initial_store after rounds definition.certificate
 certified_trimmed = certified_computed (zeros (take 64 trimmed) 32 8) certificate' 1 refl no_loop' refl refl refl
 
@@ -124,12 +122,12 @@ stimuli_alike = record { equally_long = refl; alike = alike_places }
 -- ---- what is claimed of them
 
 -- the premises hold, two variables are dropped, and the variable that is poked has another number
-pub premises_met : Certifies (zeros table 48 12) (written certificate 12) (certified.Accepted 1)
-    × CallTrims (take 48 certificate) kept trim_lent trim_left (trim.Accepted 4)
-    × Benches stimuli (zeros table 6 24) (written values 24) benched.Accepted
-    × Benches stimuli' (zeros (take 64 trimmed) 4 16) (written values' 16) benched.Accepted
-    × Benches stimuli'' (zeros (take 64 trimmed) 4 16) (written values'' 16) benched.Accepted
-    × Certifies (zeros (take 64 trimmed) 32 8) (written certificate' 8) (certified.Accepted 1)
+pub premises_met : Certifies (zeros table 48 12) (written certificate 12) (Ok 1)
+    × CallTrims (take 48 certificate) kept trim_lent trim_left (Ok 4)
+    × Benches stimuli (zeros table 6 24) (written values 24) (Ok tt)
+    × Benches stimuli' (zeros (take 64 trimmed) 4 16) (written values' 16) (Ok tt)
+    × Benches stimuli'' (zeros (take 64 trimmed) 4 16) (written values'' 16) (Ok tt)
+    × Certifies (zeros (take 64 trimmed) 32 8) (written certificate' 8) (Ok 1)
     × RenumberedStimuli numbers 4 stimuli stimuli'
     × AlikeStimuli (take 64 trimmed) stimuli' stimuli''
     × (4 + 2 ≡ length table / 16)
@@ -148,7 +146,7 @@ premises_met = (
 )
 
 -- so the claim speaks of these calls
-pub alike_met : TrimmedAlike kept numbers 4 values values' benched.Accepted
+pub alike_met : TrimmedAlike kept numbers 4 values values' (Ok tt)
 alike_met =
     trimmed_alike certified_once trimmed_once benched_once _ _ _ _ _ _ benched_trimmed (omega arith) (omega arith)
     stimuli_renumbered

@@ -7,15 +7,14 @@ use Prim.Native.Nat.{ℕ, ◌+◌, ◌*◌, ◌/◌, ◌<◌}
 use native.Mathlib.Omega.{arith}
 use lib.ListN.{length, take, get_or}
 use lib.Seq.{get_or-take}
+use Rattle.std.specs.Prelude.{Ok}
 use Rattle.circuit.specs.Circuit.{Circuit, circuit}
 use Rattle.circuit.proofs.Tables.{circuit_length}
 use Rattle.fact.specs.Fact.{fact_at}
 use Rattle.fact.specs.Certificate.{certificate}
 use Rattle.fact.proofs.Cells.{facts_laws}
 use Rattle.call.specs.Call.{lent, left}
-use Rattle.certificate.specs.declared.Certified.TheVariants as certified
 use Rattle.certificate.specs.Promise.{Certifies}
-use Rattle.trim.specs.declared.Trimmed.TheVariants as trim
 use Rattle.trim.specs.Promise as trim-call
 use Rattle.trim.specs.Promise.{CallTrims}
 use Rattle.trim.specs.Trimmed.{replaced, trimmed}
@@ -26,7 +25,7 @@ use Rattle.trim.proofs.Accepted.{trimmed_size, trimmed_records, trimmed_circuit,
 use Rattle.guarantee.proofs.Certified.{facts_certified}
 
 module _ {t cells scratch cells' scratch' : List ℕ} {rounds : ℕ}
-    (p : Certifies (lent t cells scratch) (left cells' scratch') (certified.Accepted rounds)) where
+    (p : Certifies (lent t cells scratch) (left cells' scratch') (Ok rounds)) where
   abbrev n : ℕ
   n = length t / 16
 
@@ -46,7 +45,7 @@ module _ {t cells scratch cells' scratch' : List ℕ} {rounds : ℕ}
 
   module _ {kept first second scratch₁ first' numbers scratch₁' : List ℕ} {k : ℕ}
       (q : CallTrims (take (length t / 16 * 8) cells') kept (trim-call.lent t first second scratch₁)
-      (trim-call.left first' numbers scratch₁') (trim.Accepted k)) where
+      (trim-call.left first' numbers scratch₁') (Ok k)) where
     replaced_own : replaced c (fact_at (take (n * 8) cells')) ≡ c₁
     replaced_own = replaced_agree c (fact_at (take (n * 8) cells')) (certificate c) facts_own
 

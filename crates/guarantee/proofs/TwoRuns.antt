@@ -8,6 +8,8 @@ use mathlib.Core.List.{List}
 use Prim.Native.Nat.{ℕ, ◌+◌, ◌*◌, ◌/◌, ◌<◌}
 use native.Mathlib.Omega.{arith}
 use lib.ListN.{length, get_or}
+use Rattle.std.specs.Prelude.{Result, Ok}
+use Rattle.circuit.specs.declared.refusal.Refusal.{Refusal}
 use Rattle.circuit.specs.Number.{u32_at}
 use Rattle.circuit.specs.Circuit.{Circuit, circuit, NoLoop}
 use Rattle.circuit.specs.Stimuli.{stimuli}
@@ -18,12 +20,8 @@ use Rattle.fact.specs.Certificate as definition
 use Rattle.fact.specs.TwoRuns.{Claims}
 use Rattle.fact.proofs.Claims.{claims_always, claims_open}
 use Rattle.fact.proofs.Certificate.{two_runs_claimed}
-use Rattle.call.specs.Call.{lent, left}
-use Rattle.certificate.specs.declared.Certified.{Certified}
-use Rattle.certificate.specs.declared.Certified.TheVariants as certified
+use Rattle.call.specs.Call.{Answer, lent, left}
 use Rattle.certificate.specs.Promise.{Certifies}
-use Rattle.machine.specs.declared.Benched.{Benched}
-use Rattle.machine.specs.declared.Benched.TheVariants as benched
 use Rattle.machine.specs.Promise.{Benches}
 use Rattle.machine.proofs.Satisfied.{value_written}
 use Rattle.guarantee.specs.declared.Answers.{Answers}
@@ -57,8 +55,8 @@ module _ (t cells : List ℕ) (inside : Inside (circuit t (length t / 16))) (no_
   c = circuit t n
 
   pub facts_guaranteed : {s₁ values₁ scratch₁ values₁' scratch₁' s₂ values₂ scratch₂ values₂' scratch₂' : List ℕ}
-      → Benches s₁ (lent t values₁ scratch₁) (left values₁' scratch₁') benched.Accepted
-      → Benches s₂ (lent t values₂ scratch₂) (left values₂' scratch₂') benched.Accepted
+      → Benches s₁ (lent t values₁ scratch₁) (left values₁' scratch₁') (Ok tt)
+      → Benches s₂ (lent t values₂ scratch₂) (left values₂' scratch₂') (Ok tt)
       → AlikeStimuli t s₁ s₂ → ClaimsHold t cells values₁' values₂'
   facts_guaranteed {s₁} {values₁' = values₁'} {s₂ = s₂} {values₂' = values₂'} q q' a v below =
       let variable : v < length c = omega (arith, circuit_length t n) in
@@ -70,17 +68,17 @@ module _ (t cells : List ℕ) (inside : Inside (circuit t (length t / 16))) (no_
 
 module _ (t certificate scratch certificate' scratch' : List ℕ)
     (values₁ scratch₁ values₁' scratch₁' s₁ values₂ scratch₂ values₂' scratch₂' s₂ : List ℕ) where
-  abbrev Certifying : Certified → Type 0
+  abbrev Certifying : Answer → Type 0
   Certifying = Certifies (lent t certificate scratch) (left certificate' scratch')
 
-  abbrev First : Benched → Type 0
+  abbrev First : Result Unit Refusal → Type 0
   First = Benches s₁ (lent t values₁ scratch₁) (left values₁' scratch₁')
 
-  abbrev Second : Benched → Type 0
+  abbrev Second : Result Unit Refusal → Type 0
   Second = Benches s₂ (lent t values₂ scratch₂) (left values₂' scratch₂')
 
-  pub two_runs_guaranteed : {k : ℕ} → Certifying (certified.Accepted k) → First benched.Accepted
-      → Second benched.Accepted → AlikeStimuli t s₁ s₂ → ClaimsHold t certificate' values₁' values₂'
+  pub two_runs_guaranteed : {k : ℕ} → Certifying (Ok k) → First (Ok tt) → Second (Ok tt)
+      → AlikeStimuli t s₁ s₂ → ClaimsHold t certificate' values₁' values₂'
   two_runs_guaranteed p q q' a =
       facts_guaranteed t certificate' (certified_inside p) p.past.no_loop (facts_certified p) q q' a
 

@@ -7,6 +7,7 @@ use mathlib.Core.List.{flatten, flat_map}
 use Prim.Native.Nat.{ℕ, zero, suc, ◌*◌, ◌<◌}
 use native.Mathlib.Omega.{arith}
 use lib.ListN.{get_or}
+use Rattle.std.specs.Prelude.{Ok}
 use Rattle.net.specs.Tests.{all_below, every}
 use Rattle.net.specs.Net.{list_below, after}
 use Rattle.circuit.specs.Circuit.{Circuit, circuit, NoLoop}
@@ -18,9 +19,7 @@ use Rattle.fact.specs.Rule.{rule}
 use Rattle.fact.specs.Certificate.{initial_store, rounds, certificate}
 use Rattle.fact.proofs.Cases.{ranks_a}
 use Rattle.call.specs.Call.{circuit_of}
-use Rattle.certificate.specs.declared.Certified.TheVariants as certified
 use Rattle.certificate.specs.Promise.{Certifies}
-use Rattle.machine.specs.declared.Benched.TheVariants as benched
 use Rattle.machine.specs.Promise.{Benches}
 use Rattle.guarantee.specs.TwoRuns.{BothTick, BothPoke, AlikeStimuli, ClaimsHold}
 use Rattle.guarantee.specs.Witness as witness
@@ -38,11 +37,11 @@ no_loop : NoLoop c
 unfolding flatten circuit check_records all_below every
 no_loop = falling_no_loop table 9 ranks_a refl tt
 
-certified_once : Certifies (zeros 8 2) (written witness.certificate 2) (certified.Accepted 1)
+certified_once : Certifies (zeros 8 2) (written witness.certificate 2) (Ok 1)
 unfolding flatten flat_map circuit check_records list_below rule initial_store after rounds certificate
 certified_once = certified_computed (zeros 8 2) witness.certificate 1 refl no_loop refl refl refl
 
-benched₁ : Benches stimuli₁ (zeros 1 4) (written values₁ 4) benched.Accepted
+benched₁ : Benches stimuli₁ (zeros 1 4) (written values₁ 4) (Ok tt)
 unfolding flatten circuit check_records check_stimuli stimuli list_below machine
 benched₁ =
     record {
@@ -51,7 +50,7 @@ benched₁ =
       accepts = record { no_number = refl; values = refl };
     }
 
-benched₂ : Benches stimuli₂ (zeros 1 4) (written values₂ 4) benched.Accepted
+benched₂ : Benches stimuli₂ (zeros 1 4) (written values₂ 4) (Ok tt)
 unfolding flatten circuit check_records check_stimuli stimuli list_below machine
 benched₂ =
     record {
@@ -76,9 +75,9 @@ stimuli_alike : AlikeStimuli table stimuli₁ stimuli₂
 stimuli_alike = record { equally_long = refl; alike = alike_places }
 
 -- the premises of demand 3 hold, and the secret input ends with two numbers
-pub premises_met : Certifies (zeros 8 2) (written witness.certificate 2) (certified.Accepted 1)
-    × Benches stimuli₁ (zeros 1 4) (written values₁ 4) benched.Accepted
-    × Benches stimuli₂ (zeros 1 4) (written values₂ 4) benched.Accepted
+pub premises_met : Certifies (zeros 8 2) (written witness.certificate 2) (Ok 1)
+    × Benches stimuli₁ (zeros 1 4) (written values₁ 4) (Ok tt)
+    × Benches stimuli₂ (zeros 1 4) (written values₂ 4) (Ok tt)
     × AlikeStimuli table stimuli₁ stimuli₂
     × (get_or values₁ 0 0 ≡ get_or values₂ 0 0 → ⊥)
 premises_met = (certified_once, benched₁, benched₂, stimuli_alike, λ e. omega arith)

@@ -1,11 +1,9 @@
 -- What is promised of a certifying call and two bench calls on one table: the promise of each, and demand 3 of what
 -- they write.
 -- Assumes nothing.
-use Rattle.std.specs.Prelude.{◌≡◌, List, ℕ}
+use Rattle.std.specs.Prelude.{◌≡◌, List, ℕ, Ok}
 use Rattle.call.specs.Call.{Lent, Left, output_of}
-use Rattle.certificate.specs.declared.Certified.TheVariants as certified
 use Rattle.certificate.specs.Promise.{Certifies}
-use Rattle.machine.specs.declared.Benched.TheVariants as benched
 use Rattle.machine.specs.Promise.{Benches}
 use Rattle.guarantee.specs.declared.Answers.{Answers}
 use Rattle.guarantee.specs.TwoRuns.{AlikeStimuli, ClaimsHold}
@@ -13,9 +11,9 @@ use Rattle.guarantee.specs.TwoRuns.{AlikeStimuli, ClaimsHold}
 -- the table is certified, and both lists have run
 abbrev pub AllAccepted : Answers → Type 0
 AllAccepted r =
-    ((k : ℕ) × (r.certified ≡ certified.Accepted k))
-    × (r.first ≡ benched.Accepted)
-    × (r.second ≡ benched.Accepted)
+    ((k : ℕ) × (r.certified ≡ Ok k))
+    × (r.first ≡ Ok tt)
+    × (r.second ≡ Ok tt)
 
 -- over what is lent to the certifying call and what it leaves, and the list and the same of each bench call
 pub record Guarantees (l : Lent) (e : Left) (s : List ℕ) (l₁ : Lent) (e₁ : Left) (s' : List ℕ) (l₂ : Lent) (e₂ : Left)

@@ -1,11 +1,10 @@
 -- What is claimed of a trimmed table, over the bytes and numbers that four calls write: a table is certified, and
 -- trimmed by that certificate; a list of stimuli runs on it, and the list with its pokes renumbered on the trimmed one.
 -- Assumes nothing.
-use Rattle.std.specs.Prelude.{◌≡◌, ◌⊎◌, List, [], ◌∷◌, ◌++◌, ℕ, ◌+◌, ◌*◌, ◌/◌, ◌%◌, ◌<◌, length, get_or}
+use Rattle.std.specs.Prelude.{◌≡◌, ◌⊎◌, List, [], ◌∷◌, ◌++◌, ℕ, ◌+◌, ◌*◌, ◌/◌, ◌%◌, ◌<◌, length, get_or, Result, Ok}
 use Rattle.net.specs.Net.{list_below}
+use Rattle.circuit.specs.declared.refusal.Refusal.{Refusal}
 use Rattle.circuit.specs.Number.{u16_at, u32_at, u16_bytes}
-use Rattle.machine.specs.declared.Benched.{Benched}
-use Rattle.machine.specs.declared.Benched.TheVariants.{Accepted}
 
 -- the stimulus at a place but for bytes 2 and 3, its variable: byte 0, byte 1 and the value are as they were
 pub record SameButVariable (s s' : List ℕ) (at : ℕ) : Type 0 where
@@ -56,9 +55,10 @@ abbrev pub AllBytes : List ℕ → Type 0
 AllBytes s = (m : ℕ) → m < length s → get_or s m 0 < 256
 
 -- what is claimed of the answer r and of the values in which both runs end
-pub record TrimmedAlike (kept numbers : List ℕ) (k : ℕ) (values values' : List ℕ) (r : Benched) : Type 0 where
+pub record TrimmedAlike (kept numbers : List ℕ) (k : ℕ) (values values' : List ℕ)
+    (r : Result Unit Refusal) : Type 0 where
   -- the list is accepted on the trimmed table
-  pub accepted : r ≡ Accepted
+  pub accepted : r ≡ Ok tt
   -- every variable of the trimmed table holds what its old one holds
   pub same : (j : ℕ) → j < k → get_or values' j 0 ≡ get_or values (get_or numbers j 0) 0
   -- every kept variable is the old one of a variable of the trimmed table, which holds the same

@@ -5,15 +5,16 @@
 ghost use Rattle.call.specs.Call.{lent, left};
 ghost use Rattle.guarantee.specs.Guarantee.{Guarantees};
 
-use certificate::{Certified, certify};
-use machine::{Benched, bench};
+use certificate::certify;
+use circuit::refusal::Refusal;
+use machine::bench;
 
 // The answers of a certifying call and of two bench calls.
 #[derive(Clone, Copy)]
 pub struct Answers {
-    pub certified: Certified,
-    pub first: Benched,
-    pub second: Benched,
+    pub certified: Result<u32, Refusal>,
+    pub first: Result<(), Refusal>,
+    pub second: Result<(), Refusal>,
 }
 
 // Certifies a table and runs two lists of stimuli on it. Each call is made whatever the others answer, and has its own
@@ -43,8 +44,8 @@ pub fn two_runs(
     let first = bench(table, stimuli1, values1, scratch1);
     let second = bench(table, stimuli2, values2, scratch2);
     Answers {
-        certified: certified,
-        first: first,
-        second: second,
+        certified,
+        first,
+        second,
     }
 }

@@ -5,5 +5,4 @@ pub mod Running
 pub mod Promise
 pub mod Satisfied
 pub mod WidePokes
-pub mod ReaderOwned
 pub mod Reading

@@ -16,10 +16,10 @@ use Rattle.circuit.proofs.Tables.{Inside, circuit_length, circuit_inside, circui
 use Rattle.circuit.proofs.Values.{values_local, machine_settled}
 use Rattle.call.specs.Call.{Lent, Left, output_of, size, circuit_of}
 use Rattle.call.proofs.Parts.{table_checked}
-use Rattle.machine.specs.declared.Benched.TheVariants.{Accepted}
+use Rattle.std.specs.Prelude.{Ok}
 use Rattle.machine.specs.Promise.{benching, Benches}
 
-module _ (s : List ℕ) (l : Lent) (e : Left) (ran : Benches s l e Accepted) where
+module _ (s : List ℕ) (l : Lent) (e : Left) (ran : Benches s l e (Ok tt)) where
   abbrev c : Circuit
   c = circuit_of l
 

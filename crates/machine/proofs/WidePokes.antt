@@ -11,13 +11,13 @@ use Rattle.circuit.proofs.Places.{refusal_found, call_refusals}
 use Rattle.circuit.proofs.WidePokes.{WidePoke, wide_refusals}
 use Rattle.call.specs.Call.{Lent, Left, size, circuit_of, asked, checked}
 use Rattle.call.proofs.Parts.{table_checked}
-use Rattle.machine.specs.declared.Benched.TheVariants.{Refused}
+use Rattle.std.specs.Prelude.{Err}
 use Rattle.machine.specs.Promise.{benching, Benches}
 
 -- a bench call is refused on ground 16 only where the stimulus at the place pokes a free or a secret input with a value
 -- that does not fit it
 pub wide_refused : (s : List ℕ) (l : Lent) (e : Left) (g : Ground) (place : ℕ) → ground_number g ≡ 16
-    → Benches s l e (Refused g place) → WidePoke (circuit_of l) s place
+    → Benches s l e (Err (record { reason = g; place = place })) → WidePoke (circuit_of l) s place
 wide_refused s l e g place is (inl p) =
     let early =
     refusal_found (λ h i. (ground_number h ≤ 10) × (i ≤ 4096)) (checked (benching s) l) g place

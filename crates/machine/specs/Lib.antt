@@ -3,3 +3,4 @@ pub mod State
 pub mod Staging
 pub mod Reading
 pub mod Answer
+pub mod Lawful

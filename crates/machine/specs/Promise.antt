@@ -5,10 +5,11 @@ use Rattle.net.specs.Net.{list_below}
 use Rattle.circuit.specs.Checks.{check_records}
 use Rattle.circuit.specs.Machine.{machine}
 use Rattle.circuit.specs.Stimuli.{check_stimuli, stimuli}
-use Rattle.call.specs.Call.{Lent, Left, Answer, accepted, refused, Call, output_of, size, circuit_of, Promises}
+use Rattle.call.specs.Call.{Lent, Left, Answer, accepted, Call, output_of, size, circuit_of, Promises}
 use Rattle.call.specs.Asks.{found_of}
-use Rattle.machine.specs.declared.Benched.{Benched}
-use Rattle.machine.specs.declared.Benched.TheVariants.{Accepted, Refused}
+use Rattle.std.specs.Prelude.{Result}
+use Rattle.circuit.specs.declared.refusal.Refusal.{Refusal}
+use Rattle.std.specs.Prelude.{Ok, Err}
 
 -- what the bench call asks a record: 32-bit numbers of the values, and 16-bit numbers of scratch
 abbrev pub each : ℕ
@@ -31,12 +32,12 @@ module _ (s : List ℕ) where
   benching = record { asks = each ∷ []; room = room; later = λ l. check_stimuli (circuit_of l) s; Accepts = Ran }
 
 -- its answer as every call has one
-abbrev pub answer_of : Benched → Answer
-answer_of Accepted = accepted 0
-answer_of (Refused g place) = refused g place
+abbrev pub answer_of : Result Unit Refusal → Answer
+answer_of (Ok u) = accepted 0
+answer_of (Err r) = Err r
 
 -- the promise: what holds of the buffers and the answer
-abbrev pub Benches : List ℕ → Lent → Left → Benched → Type 0
+abbrev pub Benches : List ℕ → Lent → Left → Result Unit Refusal → Type 0
 Benches s l e r = Promises (benching s) l e (answer_of r)
 
 -- what it asks, computed: of a table of one record one number and four of scratch, and one less of either is refused

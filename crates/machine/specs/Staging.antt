@@ -6,7 +6,9 @@ use Rattle.net.specs.Net.{register}
 use Rattle.buffer.specs.Store.{Layout}
 use Rattle.circuit.specs.Record.{role}
 use Rattle.circuit.specs.Reading.{fields_at}
-use Rattle.circuit.specs.Circuit.{Circuit, circuit, record_of}
+use Rattle.circuit.specs.declared.table.Table.{Table}
+use Rattle.circuit.specs.Tables.{circuit_of}
+use Rattle.circuit.specs.Circuit.{Circuit, record_of}
 use Rattle.circuit.specs.Machine.{values}
 use Rattle.engine.specs.Registers.{next_of}
 
@@ -19,9 +21,10 @@ abbrev pub halves : Layout ℕ
 halves = record { each = 2; image = λ x. x % 65536 ∷ x / 65536 ∷ []; at = number_at }
 
 -- where no register is said to have an enable, every register of the table is of kind 4
-abbrev pub PlainUnless : Bool → List ℕ → ℕ → Type 0
-PlainUnless enables t n =
-    enables ≡ false → (v : ℕ) → v < n → role (record_of (circuit t n) v) ≡ register → (fields_at t (v * 16)).kind ≡ 4
+abbrev pub PlainUnless : Bool → Table → Type 0
+PlainUnless enables t =
+    enables ≡ false → (v : ℕ) → v < t.records → role (record_of (circuit_of t) v) ≡ register
+    → (fields_at t.bytes.now (v * 16)).kind ≡ 4
 
 -- the next value of register j
 abbrev pub staged : Circuit → (ℕ → ℕ) → ℕ → ℕ

@@ -1,22 +1,17 @@
 // Grounds 12 to 17: the list's length, and each of its stimuli.
-ghost use Rattle.std.specs.Prelude.{◌≡◌, ◌*◌, ◌^◌, ◌≤◌, leb, length};
+ghost use Rattle.std.specs.Prelude.{◌≡◌, ◌/◌, ◌^◌, leb, length, Ok};
 ghost use Rattle.std.proofs.Math.Option.{some};
 ghost use Rattle.net.specs.declared.Stimulus.TheVariants.{Poke};
 ghost use Rattle.circuit.specs.declared.refusal.Ground.TheVariants as grounds;
-ghost use Rattle.circuit.specs.declared.refusal.Check.TheVariants as check;
-ghost use Rattle.circuit.specs.declared.stimulus.ReadStimulus.TheVariants.{Read};
-ghost use Rattle.circuit.specs.Refusal.{refuse};
-ghost use Rattle.circuit.specs.Circuit.{circuit};
-ghost use Rattle.circuit.specs.Checks.{Checked};
+ghost use Rattle.circuit.specs.Refusal.{passed, refuse};
+ghost use Rattle.circuit.specs.Tables.{circuit_of};
 ghost use Rattle.circuit.specs.Stimuli.{fixed_to_other, check_stimulus, check_stimuli_from, check_stimuli};
 
-use crate::reader::read_stimulus;
-use circuit::number::wide;
-use circuit::operator::power;
-use circuit::record::{InputKind, Record, too_wide};
+use crate::reader::StimulusReader;
+use circuit::record::{InputKind, Record};
 use circuit::refusal::{Check, Ground};
-use circuit::stimulus::ReadStimulus;
-use circuit::table::record_at;
+use circuit::table::{Table, record_at};
+use circuit::width::Width;
 use net::Stimulus;
 
 // Whether an input is fixed to another number than x.
@@ -25,92 +20,69 @@ fn fixed_to_other(kind: InputKind, x: u32) -> bool
 {
     match kind {
         InputKind::Fixed(n) => x != n,
-        InputKind::Free => false,
-        InputKind::Secret => false,
+        InputKind::Free | InputKind::Secret => false,
     }
 }
 
 // Grounds 17 and 16, in this order, of stimulus i, which pokes an input with x.
-fn check_value(w: u8, kind: InputKind, x: u32, i: usize) -> Check
-    requires { w ≤ 32 }
+fn check_value(width: Width, kind: InputKind, x: u32, i: usize) -> Check
     ensures { result ≡ refuse grounds.FixedInput i (fixed_to_other (some kind) x)
-        (refuse grounds.PokeTooWide i (leb (2 ^ w) x) check.Passed) }
+        (refuse grounds.PokeTooWide i (leb (2 ^ width.bits) x) passed) }
 {
     let tied = fixed_to_other(kind, x);
-    let unfit = too_wide(x, w, power(w));
+    let unfit = width.is_exceeded_by(x);
     if tied {
-        return Check::Refused(Ground::FixedInput, i);
+        return Err(Ground::FixedInput.at(i));
     }
     if unfit {
-        return Check::Refused(Ground::PokeTooWide, i);
+        return Err(Ground::PokeTooWide.at(i));
     }
-    Check::Passed
+    Ok(())
 }
 
 // Grounds 15 to 17 of stimulus i, which pokes variable v with x.
-fn check_poke(t: &[u8], n: usize, v: usize, x: u32, i: usize) -> Check
-    requires { Checked t.now n }
-    ensures { result ≡ check_stimulus (circuit t.now n) (Read (Poke v x)) i }
+fn check_poke(table: &Table, v: usize, x: u32, i: usize) -> Check
+    ensures { result ≡ check_stimulus (circuit_of table.now) (Ok (Poke v x)) i }
 {
-    if n <= v {
-        return Check::Refused(Ground::NotAnInput, i);
+    if table.records <= v {
+        return Err(Ground::NotAnInput.at(i));
     }
-    let r = record_at(t, v);
-    match r {
-        Record::Input(w, kind) => check_value(w, kind, x, i),
-        Record::Constant(_, _) => Check::Refused(Ground::NotAnInput, i),
-        Record::Operator(_, _, _, _) => Check::Refused(Ground::NotAnInput, i),
-        Record::Multiplexer(_, _, _, _) => Check::Refused(Ground::NotAnInput, i),
-        Record::Register(_, _, _) => Check::Refused(Ground::NotAnInput, i),
-        Record::Enabled(_, _, _, _) => Check::Refused(Ground::NotAnInput, i),
-    }
+    let Record::Input(w, kind) = record_at(table.bytes, v) else {
+        return Err(Ground::NotAnInput.at(i));
+    };
+    check_value(Width::new(w), kind, x, i)
 }
 
 // Grounds 14 to 17 of stimulus i.
-fn check_stimulus(t: &[u8], n: usize, read: ReadStimulus, i: usize) -> Check
-    requires { Checked t.now n }
-    ensures { result ≡ check_stimulus (circuit t.now n) read i }
+fn check_stimulus(table: &Table, read: Result<Stimulus, Ground>, i: usize) -> Check
+    ensures { result ≡ check_stimulus (circuit_of table.now) read i }
 {
     match read {
-        ReadStimulus::Refused(reason) => Check::Refused(reason, i),
-        ReadStimulus::Read(stimulus) => match stimulus {
-            Stimulus::Tick => Check::Passed,
-            Stimulus::Poke(v, x) => check_poke(t, n, wide(v), x, i),
-        },
+        Err(reason) => Err(reason.at(i)),
+        Ok(Stimulus::Tick) => Ok(()),
+        Ok(Stimulus::Poke(v, x)) => check_poke(table, usize::from(v), x, i),
     }
 }
 
-// Grounds 14 to 17 of the first `count` stimuli.
-fn check_each(t: &[u8], n: usize, s: &[u8], count: usize) -> Check
-    requires checked { Checked t.now n }
-    requires count_in_bounds { count * 8 ≤ length s.now }
-    ensures { result ≡ check_stimuli_from (circuit t.now n) s.now count 0 }
+// Grounds 14 to 17 of each stimulus.
+fn check_each(table: &Table, s: &[u8]) -> Check
+    ensures { result ≡ check_stimuli_from (circuit_of table.now) s.now (length s.now / 8) 0 }
 {
-    let mut at: usize = 0;
-    let mut i: usize = 0;
-    while i < count {
-        let next = read_stimulus(s, at);
-        let read = next.read;
-        let checked = check_stimulus(t, n, read, i);
-        let Check::Passed = checked else {
-            return checked;
-        };
-        at = next.at;
-        i += 1;
+    for (i, read) in StimulusReader::new(s).enumerate() {
+        check_stimulus(table, read, i)?;
     }
-    Check::Passed
+    Ok(())
 }
 
 // Grounds 12 to 17 of a list of stimuli.
-pub fn check_stimuli(t: &[u8], n: usize, s: &[u8]) -> Check
-    requires { Checked t.now n }
-    ensures { result ≡ check_stimuli (circuit t.now n) s.now }
+pub fn check_stimuli(table: &Table, s: &[u8]) -> Check
+    ensures { result ≡ check_stimuli (circuit_of table.now) s.now }
 {
     if s.len() % 8 != 0 {
-        return Check::Refused(Ground::StimuliNotWhole, 0);
+        return Err(Ground::StimuliNotWhole.at(0));
     }
     if 4096 < s.len() / 8 {
-        return Check::Refused(Ground::TooManyStimuli, 0);
+        return Err(Ground::TooManyStimuli.at(0));
     }
-    check_each(t, n, s, s.len() / 8)
+    check_each(table, s)
 }

@@ -3,19 +3,12 @@ ghost use Rattle.std.specs.Prelude.{◌≡◌, ◌+◌, ◌≤◌, ◌<◌, leng
 ghost use Rattle.buffer.specs.Store.{Wrote};
 ghost use Rattle.machine.specs.Staging.{number_at, halves};
 
-// A 16-bit number as a wider one.
-fn wide32(x: u16) -> u32
-    ensures { (result ≡ x) × (result < 65536) }
-{
-    x as u32
-}
-
 // The number in the two halves from a place on.
 pub fn load(scratch: &[u16], at: usize) -> u32
     requires { at + 2 ≤ length scratch.now }
     ensures { result ≡ number_at scratch.now at }
 {
-    wide32(scratch[at]) + 65536 * wide32(scratch[at + 1])
+    u32::from(scratch[at]) + 65536 * u32::from(scratch[at + 1])
 }
 
 // The two halves of a number, written from a place on.

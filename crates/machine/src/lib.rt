@@ -2,30 +2,33 @@
 // number a variable, in the lent output; the order of the wires, and what a tick stages, stand in the lent scratch.
 #![tactic(auto)]
 
-ghost use Rattle.std.specs.Prelude.{◌≡◌, ◌++◌, ◌+◌, ◌*◌, drop, replicate};
-ghost use Rattle.buffer.specs.Kept.{KeptOutside};
+ghost use Rattle.std.specs.Prelude.{◌≡◌, ◌++◌, ◌*◌, drop, replicate};
+ghost use Rattle.buffer.specs.Kept.{Kept};
 ghost use Rattle.buffer.specs.Store.{numbers};
-ghost use Rattle.circuit.specs.declared.refusal.Check.TheVariants.{Passed};
-ghost use Rattle.circuit.specs.Circuit.{circuit};
+ghost use Rattle.circuit.specs.Tables.{circuit_of};
 ghost use Rattle.engine.specs.Ready.{Ready};
-ghost use Rattle.call.specs.Call.{lent, left, checked};
+ghost use Rattle.call.specs.Call.{lent, left};
 ghost use Rattle.machine.specs.Answer.{ListAnswered};
-ghost use Rattle.machine.specs.Promise.{room, benching, Benches};
+ghost use Rattle.machine.specs.Promise.{room, Benches};
 
 use crate::checks::check_stimuli;
 use crate::pass::power_on;
 use crate::run::run;
 use circuit::checks::check_call;
-use circuit::operator::power_table;
-use circuit::refusal::{Check, Ground};
-use schedule::{Outcome, clear, schedule};
+use circuit::refusal::Refusal;
+use circuit::table::Table;
+use circuit::width::PowerTable;
+use engine::plan::Plan;
+use schedule::{Order, clear, schedule};
 
 mod checks;
 mod halves;
 mod pass;
 mod reader;
+mod rule;
 mod run;
 mod stimulus;
+mod store;
 mod tick;
 
 // What is asked a record of the values and of the scratch.
@@ -33,86 +36,62 @@ const EACH: usize = 1;
 
 const ROOM: usize = 4;
 
-// The list has run; or the ground on which the table or the list is turned down, with its place.
-#[derive(Clone, Copy)]
-pub enum Benched {
-    Accepted,
-    Refused(Ground, usize),
-}
-
-// The list on a table whose order stands in the scratch. It is read whole before anything acts.
+// The list on a table whose order stands in the scratch. It is read whole before anything acts. The order is in front,
+// and what a tick stages behind it.
 fn bench_list(
-    t: &[u8],
-    n: usize,
+    table: &Table,
     s: &[u8],
     scratch: &mut [u16],
-    wires: usize,
-    registers: usize,
+    order: Order,
     values: &mut [u32],
-) -> Benched
-    requires { Ready numbers room t.now n scratch.old wires registers values.old }
-    ensures kept_outside { KeptOutside (n + n) (n * room) scratch.old scratch.new }
-    ensures list_answered { ListAnswered (circuit t.now n) n s.now
+) -> Result<(), Refusal>
+    requires { Ready numbers room table.now.bytes.now table.now.records scratch.old order.wires order.registers values.old }
+    ensures kept { Kept (table.now.records * room) scratch.old scratch.new }
+    ensures list_answered { ListAnswered (circuit_of table.now) table.now.records s.now
         values.old values.new result }
 {
-    let check = check_stimuli(t, n, s);
-    match check {
-        Check::Refused(reason, place) => Benched::Refused(reason, place),
-        Check::Passed => {
-            power_on(t, n, scratch, wires, values);
-            run(t, n, s, scratch, wires, registers, values);
-            Benched::Accepted
-        }
-    }
+    check_stimuli(table, s)?;
+    let (ordered, staging) = scratch.split_at_mut(table.records);
+    let plan = Plan::new(table, ordered, order);
+    power_on(&plan, values);
+    run(&plan, s, staging, values);
+    Ok(())
 }
 
 // The same, and the scratch part cleared.
 fn bench_ordered(
-    t: &[u8],
-    n: usize,
+    table: &Table,
     s: &[u8],
     scratch: &mut [u16],
-    wires: usize,
-    registers: usize,
+    order: Order,
     values: &mut [u32],
-) -> Benched
-    requires { Ready numbers room t.now n scratch.old wires registers values.old }
-    ensures scratch_after { scratch.new ≡ replicate (n * room) 0 ++ drop (n * room) scratch.old }
-    ensures list_answered { ListAnswered (circuit t.now n) n s.now
+) -> Result<(), Refusal>
+    requires { Ready numbers room table.now.bytes.now table.now.records scratch.old order.wires order.registers values.old }
+    ensures scratch_after { scratch.new
+        ≡ replicate (table.now.records * room) 0 ++ drop (table.now.records * room) scratch.old }
+    ensures list_answered { ListAnswered (circuit_of table.now) table.now.records s.now
         values.old values.new result }
 {
-    let answer = bench_list(t, n, s, scratch, wires, registers, values);
-    clear(scratch, 0, n * ROOM);
+    let answer = bench_list(table, s, scratch, order, values);
+    clear(scratch, 0, table.records * ROOM);
     answer
 }
 
-// The call on a table that meets none of grounds 1 to 10.
-fn bench_checked(t: &[u8], s: &[u8], values: &mut [u32], scratch: &mut [u16]) -> Benched
-    requires { checked (benching s.now) (lent t.now values.old scratch.old) ≡ Passed }
-    ensures { Benches s.now
-        (lent t.now values.old scratch.old)
-        (left values.new scratch.new) result }
-{
-    let n = t.len() / 16;
-    let outcome = schedule(t, n, n * ROOM, scratch);
-    match outcome {
-        Outcome::Loop(size) => Benched::Refused(Ground::Loop, size),
-        Outcome::Order(wires, registers) => {
-            bench_ordered(t, n, s, scratch, wires, registers, values)
-        }
-    }
-}
-
 // The bench call.
-pub fn bench(table: &[u8], stimuli: &[u8], values: &mut [u32], scratch: &mut [u16]) -> Benched
+pub fn bench(
+    table: &[u8],
+    stimuli: &[u8],
+    values: &mut [u32],
+    scratch: &mut [u16],
+) -> Result<(), Refusal>
     ensures { Benches stimuli.now
         (lent table.now values.old scratch.old)
         (left values.new scratch.new) result }
 {
-    let powers = power_table();
-    let check = check_call(table, values.len(), EACH, scratch.len(), ROOM, &powers);
-    match check {
-        Check::Refused(reason, place) => Benched::Refused(reason, place),
-        Check::Passed => bench_checked(table, stimuli, values, scratch),
-    }
+    let powers = PowerTable::new();
+    check_call(table, values.len(), EACH, scratch.len(), ROOM, &powers)?;
+    let n = table.len() / 16;
+    let checked = Table::new(table, n);
+    let order = schedule(&checked, n * ROOM, scratch)?;
+    bench_ordered(&checked, stimuli, scratch, order, values)
 }

@@ -1,48 +1,41 @@
-// Passes over the state: what inputs and registers hold at power-on, the wires along their order, and both.
-ghost use Rattle.std.specs.Prelude.{◌≡◌};
+// What a record gives, a wire's and a register's, and the state at power-on.
+ghost use Rattle.std.specs.Prelude.{◌≡◌, ◌≤◌, length};
 ghost use Rattle.net.specs.Net as net;
-ghost use Rattle.buffer.specs.Store.{numbers, Holds, Moves};
-ghost use Rattle.circuit.specs.Circuit.{circuit, record_of, graph};
+ghost use Rattle.buffer.specs.Store.{numbers, Holds};
 ghost use Rattle.circuit.specs.Machine as definition;
-ghost use Rattle.engine.specs.Ready.{StoreLent, Evaluable, Wired};
+ghost use Rattle.engine.specs.Plans as plans;
+ghost use Rattle.circuit.specs.Tables.{circuit_of};
+ghost use Rattle.engine.specs.Ready.{Evaluable};
 ghost use Rattle.machine.specs.State.{state};
 ghost use Rattle.machine.specs.Staging.{PlainUnless};
 
-use circuit::number::wide;
-use circuit::operator::{evaluate, multiplex, operator_code, power, remainder};
-use circuit::record::{initial_value, operator_of};
-use circuit::table::{a_at, b_at, c_at, code_at, kind_at, record_at, value_at, width_at};
-
-// What inputs and registers hold at power-on; wires hold 0 until they settle.
-fn write_initial(t: &[u8], n: usize, values: &mut [u32])
-    requires { StoreLent numbers t.now n values.old }
-    ensures { Holds numbers n (λ v. definition.initial (record_of (circuit t.now n) v))
-        values.old values.new }
-{
-    let mut i: usize = 0;
-    while i < n {
-        values[i] = initial_value(record_at(t, i));
-        i += 1;
-    }
-}
+use crate::rule::Evaluation;
+use crate::store::Numbers;
+use circuit::operator::{evaluate, multiplex, operator_code};
+use circuit::record::operator_of;
+use circuit::table::{Table, a_at, b_at, c_at, code_at, kind_at, value_at, width_at};
+use circuit::width::Width;
+use engine::pass::{settle, write_initial};
+use engine::plan::Plan;
 
 // What wire v's record gives. It is no input and no register, so what is no constant and no operator is a multiplexer.
 // The code goes through its operator, which bounds it: the jump on it then has one case less.
-fn wire_value(t: &[u8], n: usize, values: &[u32], v: usize) -> u32
-    requires { Evaluable numbers net.wire t.now n values.now v }
-    ensures { result ≡ definition.values (circuit t.now n) (state values.now) v }
+pub fn wire_value(table: &Table, values: &[u32], v: usize) -> u32
+    requires { Evaluable numbers net.wire table.now.bytes.now table.now.records values.now v }
+    ensures { result ≡ definition.values (circuit_of table.now) (state values.now) v }
 {
+    let t = table.bytes;
     let kind = kind_at(t, v);
     match kind {
         1 => value_at(t, v),
         2 => {
             let code = operator_code(operator_of(code_at(t, v)));
-            let w = width_at(t, v);
-            evaluate(code, w, values[a_at(t, v)], values[b_at(t, v)], power(w))
+            let width = Width::new(width_at(t, v));
+            evaluate(code, width, values[a_at(t, v)], values[b_at(t, v)])
         }
         _ => {
             multiplex(
-                width_at(t, v),
+                Width::new(width_at(t, v)),
                 values[a_at(t, v)],
                 values[b_at(t, v)],
                 values[c_at(t, v)],
@@ -53,14 +46,13 @@ fn wire_value(t: &[u8], n: usize, values: &[u32], v: usize) -> u32
 
 // What register v's record gives. One that is not of kind 4 has an enable. Where the table has none, no kind is read:
 // the loop over registers is then compiled for plain ones alone.
-pub fn register_value(t: &[u8], n: usize, values: &[u32], v: usize, enables: bool) -> u32
-    requires evaluable { Evaluable numbers net.register t.now n values.now v }
-    requires plain_unless { PlainUnless enables t.now n }
-    ensures { result ≡ definition.values (circuit t.now n) (state values.now) v }
+pub fn register_value(table: &Table, values: &[u32], v: usize, enables: bool) -> u32
+    requires evaluable { Evaluable numbers net.register table.now.bytes.now table.now.records values.now v }
+    requires plain_unless { PlainUnless enables table.now }
+    ensures { result ≡ definition.values (circuit_of table.now) (state values.now) v }
 {
-    let x = values[a_at(t, v)];
-    let w = width_at(t, v);
-    let taken = remainder(x, w, power(w));
+    let t = table.bytes;
+    let taken = Width::new(width_at(t, v)).remainder(values[a_at(t, v)]);
     if !enables {
         return taken;
     }
@@ -73,28 +65,12 @@ pub fn register_value(t: &[u8], n: usize, values: &[u32], v: usize, enables: boo
     taken
 }
 
-// The wires take their values, one after the other along their order.
-pub fn settle(t: &[u8], n: usize, scratch: &[u16], wires: usize, values: &mut [u32])
-    requires { Wired numbers t.now n scratch.now wires values.old }
-    ensures { Moves numbers n (net.settle (graph (circuit t.now n))
-        (definition.values (circuit t.now n)))
-        values.old values.new }
-{
-    let mut i: usize = 0;
-    while i < wires {
-        let v = wide(scratch[i]);
-        let x = wire_value(t, n, values, v);
-        values[v] = x;
-        i += 1;
-    }
-}
-
 // The state at power-on.
-pub fn power_on(t: &[u8], n: usize, scratch: &[u16], wires: usize, values: &mut [u32])
-    requires { Wired numbers t.now n scratch.now wires values.old }
-    ensures { Holds numbers n (definition.power_on (circuit t.now n))
+pub fn power_on(plan: &Plan, values: &mut [u32])
+    requires { plan.now.table.records ≤ length values.old }
+    ensures { Holds numbers plan.now.table.records (definition.power_on (plans.circuit_of plan.now))
         values.old values.new }
 {
-    write_initial(t, n, values);
-    settle(t, n, scratch, wires, values);
+    write_initial::<Numbers, Evaluation>(&plan.table, values);
+    settle::<Numbers, Evaluation>(&plan.table, plan.wires, &Evaluation, values);
 }

@@ -1,105 +1,74 @@
 // A tick: the registers' next values are staged, all from the same state, and then written together; the wires follow.
-ghost use Rattle.std.specs.Prelude.{◌+◌, ◌*◌};
+ghost use Rattle.std.specs.Prelude.{◌*◌, ◌≤◌, length};
 ghost use Rattle.net.specs.declared.Stimulus.TheVariants.{Tick};
 ghost use Rattle.net.specs.Net.{step};
 ghost use Rattle.net.specs.Machine as net;
-ghost use Rattle.buffer.specs.Kept.{KeptOutside};
-ghost use Rattle.buffer.specs.Store.{numbers, Stands, Moves};
-ghost use Rattle.circuit.specs.Circuit.{circuit, graph};
+ghost use Rattle.buffer.specs.Kept.{Kept};
+ghost use Rattle.buffer.specs.Store.{numbers, Stands, Holds, Moves};
+ghost use Rattle.circuit.specs.Circuit.{graph};
 ghost use Rattle.circuit.specs.Machine as definition;
-ghost use Rattle.engine.specs.Ready.{Ready};
+ghost use Rattle.engine.specs.Plans.{circuit_of};
 ghost use Rattle.machine.specs.State.{state};
 ghost use Rattle.machine.specs.Staging.{PlainUnless, halves, staged};
-ghost use Rattle.machine.specs.Promise.{room};
 
 use crate::halves::{load, store};
-use crate::pass::{register_value, settle};
-use circuit::number::wide;
+use crate::pass::register_value;
+use crate::rule::Evaluation;
+use crate::store::Numbers;
 use circuit::table::kind_at;
+use engine::pass::settle;
+use engine::plan::Plan;
 
-// Whether a register has an enable. The values are there for the contract alone.
-pub fn has_enable(
-    t: &[u8],
-    n: usize,
-    scratch: &[u16],
-    wires: usize,
-    registers: usize,
-    values: &[u32],
-) -> bool
-    requires { Ready numbers room t.now n scratch.now wires registers values.now }
-    ensures { PlainUnless result t.now n }
+// Whether a register has an enable.
+pub fn has_enable(plan: &Plan) -> bool
+    ensures { PlainUnless result plan.now.table }
 {
-    let mut j: usize = 0;
-    while j < registers {
-        let v = wide(scratch[wires + j]);
-        if kind_at(t, v) != 4 {
-            return true;
-        }
-        j += 1;
-    }
-    false
+    plan.registers
+        .iter()
+        .any(|&v| kind_at(plan.table.bytes, usize::from(v)) != 4)
 }
 
 // Stages the registers' next values.
-fn stage(
-    t: &[u8],
-    n: usize,
-    scratch: &mut [u16],
-    wires: usize,
-    registers: usize,
-    values: &[u32],
-    enables: bool,
-)
-    requires ready { Ready numbers room t.now n scratch.old wires registers values.now }
-    requires plain_unless { PlainUnless enables t.now n }
-    ensures kept_outside { KeptOutside (n + n) (n * room) scratch.old scratch.new }
-    ensures stands { Stands halves (n + n) registers (staged (circuit t.now n) (state values.now))
-        scratch.new }
+fn stage(plan: &Plan, values: &[u32], staging: &mut [u16], enables: bool)
+    requires lent { plan.now.table.records ≤ length values.now }
+    requires room { length plan.now.registers.now * 2 ≤ length staging.old }
+    requires plain_unless { PlainUnless enables plan.now.table }
+    ensures { Holds halves (length plan.now.registers.now) (staged (circuit_of plan.now) (state values.now))
+        staging.old staging.new }
 {
-    let mut j: usize = 0;
-    while j < registers {
-        let v = wide(scratch[wires + j]);
-        let x = register_value(t, n, values, v, enables);
-        store(scratch, n + n + j * 2, x);
-        j += 1;
+    for (j, &register) in plan.registers.iter().enumerate() {
+        let x = register_value(&plan.table, values, usize::from(register), enables);
+        store(staging, j * 2, x);
     }
 }
 
-// Writes the staged values, all together. The table is there for the contract alone.
-fn commit(t: &[u8], n: usize, scratch: &[u16], wires: usize, registers: usize, values: &mut [u32])
-    requires ready { Ready numbers room t.now n scratch.now wires registers values.old }
-    requires stands { Stands halves (n + n) registers (staged (circuit t.now n) (state values.old)) scratch.now }
-    ensures { Moves numbers n (step (graph (circuit t.now n))
-        (definition.values (circuit t.now n)))
+// Writes the staged values, all together.
+fn commit(plan: &Plan, staging: &[u16], values: &mut [u32])
+    requires lent { plan.now.table.records ≤ length values.old }
+    requires room { length plan.now.registers.now * 2 ≤ length staging.now }
+    requires stands { Stands halves 0 (length plan.now.registers.now) (staged (circuit_of plan.now) (state values.old))
+        staging.now }
+    ensures { Moves numbers plan.now.table.records (step (graph (circuit_of plan.now))
+        (definition.values (circuit_of plan.now)))
         values.old values.new }
 {
-    let mut k: usize = 0;
-    while k < registers {
-        let v = wide(scratch[wires + k]);
-        let x = load(scratch, n + n + k * 2);
-        values[v] = x;
-        k += 1;
+    for (k, &register) in plan.registers.iter().enumerate() {
+        let v = usize::from(register);
+        values[v] = load(staging, k * 2);
     }
 }
 
 // A tick.
-pub fn tick(
-    t: &[u8],
-    n: usize,
-    scratch: &mut [u16],
-    wires: usize,
-    registers: usize,
-    values: &mut [u32],
-    enables: bool,
-)
-    requires ready { Ready numbers room t.now n scratch.old wires registers values.old }
-    requires plain_unless { PlainUnless enables t.now n }
-    ensures kept_outside { KeptOutside (n + n) (n * room) scratch.old scratch.new }
-    ensures moves { Moves numbers n (net.act (graph (circuit t.now n))
-        (definition.values (circuit t.now n)) Tick)
+pub fn tick(plan: &Plan, staging: &mut [u16], values: &mut [u32], enables: bool)
+    requires lent { plan.now.table.records ≤ length values.old }
+    requires room { length plan.now.registers.now * 2 ≤ length staging.old }
+    requires plain_unless { PlainUnless enables plan.now.table }
+    ensures kept { Kept (length plan.now.registers.now * 2) staging.old staging.new }
+    ensures moves { Moves numbers plan.now.table.records (net.act (graph (circuit_of plan.now))
+        (definition.values (circuit_of plan.now)) Tick)
         values.old values.new }
 {
-    stage(t, n, scratch, wires, registers, values, enables);
-    commit(t, n, scratch, wires, registers, values);
-    settle(t, n, scratch, wires, values);
+    stage(plan, values, staging, enables);
+    commit(plan, staging, values);
+    settle::<Numbers, Evaluation>(&plan.table, plan.wires, &Evaluation, values);
 }

@@ -22,7 +22,7 @@ use Rattle.fact.specs.Certificate.{LeastStore}
 use Rattle.path.specs.Row.{uses_under, is_marked, secret, Under, Row, PathOf}
 use Rattle.path.specs.Lowest.{passing, lowest, marked_in, has_row, lowest_row, path_from, path_within}
 use Rattle.path.proofs.Rows.{start, walk_row}
-use Rattle.path.proofs.Marked.{marked_is, marked_has_row}
+use Rattle.path.proofs.Marked.{marked_is, member_some, marked_has_row}
 
 -- ---- the numbers of a list that pass a test
 
@@ -49,11 +49,6 @@ module _ (p : ℕ → Bool) where
       (λ e. later)
 
 -- ---- the lowest number of a list
-
-member_some : (l : List ℕ) (u : ℕ) → T (member u l) → 0 < length l
-unfolding member
-member_some [] u m = absurd m
-member_some (x ∷ xs) u m = omega arith
 
 lowest_member : (l : List ℕ) → 0 < length l → T (member (lowest l) l)
 unfolding member
@@ -158,7 +153,7 @@ module _ (c : Circuit) (s : ℕ → Fact) where
   has_more k v u t m =
       rw (has_marked k v)
       (and_both (marked_in c s v) (ltb 0 (length (onwards k v))) t
-      (lt→ltb 0 (length (onwards k v)) (member_some (onwards k v) u m)))
+      (lt→ltb 0 (length (onwards k v)) (member_some u (onwards k v) m)))
 
   -- and where it has one, it is marked, and its lowest use that has one is a use that has one
   more_has : (k v : ℕ) → T (has_row c s (suc k) v)

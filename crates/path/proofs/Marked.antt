@@ -5,6 +5,7 @@ use mathlib.Core.Path.{◌≡◌, refl, subst}
 use mathlib.Core.Bool.{Bool, true, false, not, cond, ◌&&◌}
 use mathlib.Core.List.{List, [], ◌∷◌, ◌++◌}
 use Prim.Native.Nat.{ℕ, ◌<◌}
+use native.Mathlib.Omega.{arith}
 use lib.Dec.{T, eqb, eqb→eq}
 use lib.ListN.{length}
 use Rattle.net.specs.Tests.{member, any_below}
@@ -94,6 +95,11 @@ marked_top Open h = elim h [ ]
 marked_top Marked h = refl
 
 -- ---- what is reached from v over marked variables
+
+pub member_some : (u : ℕ) (l : List ℕ) → T (member u l) → 0 < length l
+unfolding member
+member_some u [] m = absurd m
+member_some u (x ∷ xs) m = omega arith
 
 pub member_only : (u v : ℕ) → T (member u (v ∷ [])) → u ≡ v
 unfolding member

@@ -2,7 +2,7 @@
 -- be.
 -- Assumes nothing.
 use mathlib.Core.Path.{◌≡◌, refl, sym, ap, ap₂, ◌∙◌}
-use mathlib.Core.Logic.{◌⊎◌, inr, ⊎_map}
+use mathlib.Core.Logic.{◌⊎◌, inr}
 use mathlib.Core.Bool.{Bool, true, false, not, ◌&&◌}
 use mathlib.Core.List.{List, [], ◌∷◌, ◌++◌}
 use Prim.Native.Nat.{ℕ, ◌+◌, ◌-◌, ◌*◌, ◌≤◌, ◌<◌}
@@ -11,13 +11,14 @@ use borrow.Author.Tests.{ltb-true}
 use lib.Dec.{eqb, ltb}
 use lib.ListN.{length, get_or, take, drop, replicate, length-replicate, get_or-replicate, get_or-append}
 use lib.Seq.{get_or-append-add}
-use Rattle.net.proofs.Bools.{T_of, of_T, and_left, and_right}
 use Rattle.buffer.specs.Kept.{Kept}
 use Rattle.buffer.specs.Store.{Stands}
 use Rattle.circuit.specs.declared.refusal.Ground.TheVariants.{NotMarked}
-use Rattle.circuit.specs.declared.refusal.Check.TheVariants as check
+use Rattle.std.specs.Prelude.{Ok, Err}
+use Rattle.circuit.specs.Refusal as check
 use Rattle.circuit.specs.Refusal.{ground_number, refuse}
 use Rattle.circuit.specs.Circuit.{Circuit, circuit}
+use Rattle.circuit.specs.declared.table.Table.{Table}
 use Rattle.circuit.proofs.Places.{Refusals, refused_finds, refuse_refusals}
 use Rattle.circuit.proofs.Tables.{circuit_length, circuit_inside}
 use Rattle.fact.specs.declared.Fact.{Fact}
@@ -28,45 +29,42 @@ use Rattle.fact.proofs.Certificate.{certificate_least}
 use Rattle.schedule.specs.Schedule.{register_list, IsOrder}
 use Rattle.schedule.proofs.Orders.{ordered_no_loop}
 use Rattle.engine.specs.Ready.{Ready}
-use Rattle.call.specs.Call.{Lent, Left, lent, left, output_of, size, circuit_of, checked, part, AcceptedWith}
-use Rattle.call.proofs.Parts.{table_checked, outputs_lent, past_eleven}
+use Rattle.call.specs.Call.{Lent, Left, Answer, lent, left, output_of, size, circuit_of, checked, part, AcceptedWith}
+use Rattle.call.proofs.Parts.{table_checked, past_eleven}
 use Rattle.call.proofs.Contents.{BothLoops, contents_fixed}
 use Rattle.analysis.specs.Cells.{words}
 use Rattle.analysis.proofs.Behind.{ordered_words}
-use Rattle.path.specs.declared.Traced.{Traced}
-use Rattle.path.specs.declared.Traced.TheVariants.{Accepted, Refused}
 use Rattle.path.specs.Row.{is_marked}
 use Rattle.path.specs.Search.{facts, FactsStand, queued, parent, found, Found, Depth, chain}
-use Rattle.path.specs.Promise.{room, check_marked, Traces, tracing, answer_of, CallTraces}
+use Rattle.path.specs.Promise.{room, check_marked, Traces, tracing, CallTraces}
 use Rattle.path.specs.Tracing.{WritesPath, TracesMarked}
 use Rattle.path.proofs.Rows.{path_unique}
-use Rattle.path.proofs.Marked.{marked_is}
 use Rattle.path.proofs.Chain.{chain_length}
 use Rattle.path.proofs.Visits.{byte_at}
 use Rattle.path.proofs.Seeking.{found_path}
 
 -- the way to what was found is the path, and it is written
-pub path_written : {t : List ℕ} {n v : ℕ} {s : List ℕ} {i d : ℕ} {entry exit : List ℕ} → Found t n v s i
-    → Depth (parent n s) i d → d < n → exit ≡ chain (queued n s) (parent n s) d i ++ drop (d + 1) entry
-    → WritesPath t n v entry exit (d + 1)
-path_written {n = n} {s = s} {i} {d} f deep fits written =
+pub path_written : {t : Table} {v : ℕ} {s : List ℕ} {i d : ℕ} {entry exit : List ℕ} → Found t v s i
+    → Depth (parent t.records s) i d → d < t.records
+    → exit ≡ chain (queued t.records s) (parent t.records s) d i ++ drop (d + 1) entry
+    → WritesPath (circuit t.bytes.now t.records) t.records v entry exit (d + 1)
+path_written {t} {s = s} {i} {d} f deep fits written =
     record {
-      row = chain (queued n s) (parent n s) d i;
+      row = chain (queued t.records s) (parent t.records s) d i;
       path = found_path f deep;
-      row_length = chain_length (queued n s) (parent n s) d i;
+      row_length = chain_length (queued t.records s) (parent t.records s) d i;
       fits = omega arith;
       written = written;
     }
 
 -- ---- the facts, and ground 23
 
-module _ {t : List ℕ} {n : ℕ} {s s' : List ℕ} {wires registers : ℕ}
-    (r : Ready words room t n s wires registers s) where
-  pub facts_stood : Stands words 0 n (certificate (circuit t n)) s' → Kept (n * 5) s s' → FactsStand t n s'
+module _ {t : Table} {s s' : List ℕ} {wires registers : ℕ}
+    (r : Ready words room t.bytes.now t.records s wires registers s) where
+  pub facts_stood : Stands words 0 t.records (facts t) s' → Kept (t.records * 5) s s' → FactsStand t s'
   facts_stood stands kept =
       record {
-        table = r.wired.store.table;
-        no_loop = ordered_no_loop (circuit t n) (take wires s) r.wired.order;
+        no_loop = ordered_no_loop (circuit t.bytes.now t.records) (take wires s) r.wired.order;
         lent = omega (arith, r.scratch_long, kept.long);
         stand = stands;
       }
@@ -81,28 +79,17 @@ and_same : (a b b' : Bool) → (a ≡ true → b ≡ b') → (a && b) ≡ (a && 
 and_same true b b' h = h refl
 and_same false b b' h = refl
 
-module _ {t : List ℕ} {n : ℕ} {s : List ℕ} {is : Bool} (stand : FactsStand t n s) (v : ℕ)
-    (e : is ≡ (ltb v n && eqb (get_or s (v * 3) 0) 3)) where
-  told : is ≡ (ltb v (length (circuit t n)) && is_marked (facts t n v))
+module _ {t : Table} {s : List ℕ} {is : Bool} (stand : FactsStand t s) (v : ℕ)
+    (e : is ≡ (ltb v t.records && eqb (get_or s (v * 3) 0) 3)) where
+  told : is ≡ (ltb v (length (circuit t.bytes.now t.records)) && is_marked (facts t v))
   told =
       e
-      ∙ and_same (ltb v n) (eqb (get_or s (v * 3) 0) 3) (is_marked (facts t n v))
-      (λ h. ap (λ (x : ℕ). eqb x 3) (byte_at stand (ltb-true v n h)) ∙ byte_marked (facts t n v))
-      ∙ ap (λ (k : ℕ). ltb v k && is_marked (facts t n v)) (sym (circuit_length t n))
+      ∙ and_same (ltb v t.records) (eqb (get_or s (v * 3) 0) 3) (is_marked (facts t v))
+      (λ h. ap (λ (x : ℕ). eqb x 3) (byte_at stand (ltb-true v t.records h)) ∙ byte_marked (facts t v))
+      ∙ ap (λ (k : ℕ). ltb v k && is_marked (facts t v)) (sym (circuit_length t.bytes.now t.records))
 
-  pub marked_passes : is ≡ true → check_marked (circuit t n) v ≡ check.Passed
-  marked_passes h = ap (λ (b : Bool). refuse NotMarked v (not b) check.Passed) (sym told ∙ h)
-
-  pub unmarked_refused : is ≡ false → check_marked (circuit t n) v ≡ check.Refused NotMarked v
-  unmarked_refused h = ap (λ (b : Bool). refuse NotMarked v (not b) check.Passed) (sym told ∙ h)
-
-  pub marked_here : is ≡ true → (v < n) × (facts t n v ≡ Marked)
-  marked_here h =
-      let both = T_of _ (sym told ∙ h) in
-      let below = of_T _ (and_left (ltb v (length (circuit t n))) (is_marked (facts t n v)) both) in (
-        omega (arith, ltb-true v (length (circuit t n)) below, circuit_length t n),
-        marked_is (facts t n v) (and_right (ltb v (length (circuit t n))) (is_marked (facts t n v)) both),
-      )
+  pub unmarked_refused : is ≡ false → check_marked (circuit t.bytes.now t.records) v ≡ check.refused NotMarked v
+  unmarked_refused h = ap (λ (b : Bool). refuse NotMarked v (not b) check.passed) (sym told ∙ h)
 
 -- ---- the scratch
 
@@ -127,15 +114,12 @@ order_zero {c} {part} {entry} {wires = wires} {registers} o i low high =
 
 -- ---- the promise
 
-module _ (v : ℕ) (t row scratch : List ℕ) (ok : checked (tracing v) (lent t row scratch) ≡ check.Passed) where
+module _ (v : ℕ) (t row scratch : List ℕ) (ok : checked (tracing v) (lent t row scratch) ≡ check.passed) where
   abbrev l : Lent
   l = lent t row scratch
 
   abbrev c : Circuit
   c = circuit_of l
-
-  pub row_lent : size l ≤ length row
-  row_lent = omega (arith, (outputs_lent (tracing v) l ok).0)
 
   module _ {ordered : List ℕ} {wires registers : ℕ}
       (o : IsOrder c (part (tracing v) l) scratch ordered wires registers) where
@@ -145,10 +129,10 @@ module _ (v : ℕ) (t row scratch : List ℕ) (ok : checked (tracing v) (lent t 
     pub none_found : (u : ℕ) → u < size l → found (size l) ordered u ≡ 0
     none_found u h = order_zero o (size l * 5 + u) (omega (arith, o.fits, circuit_length t (size l))) (omega arith)
 
-    pub traced : (row' : List ℕ) {scratch' : List ℕ} (r : Traced) → TracesMarked t (size l) v row row' r
+    pub traced : (row' : List ℕ) {scratch' : List ℕ} (r : Answer) → TracesMarked c (size l) v row row' r
         → scratch' ≡ replicate (part (tracing v) l) 0 ++ drop (part (tracing v) l) ordered
         → CallTraces v l (left row' scratch') r
-    traced row' (Accepted k) (passes, writes) cleared =
+    traced row' (Ok k) (passes, writes) cleared =
         let past = past_eleven (tracing v) l ok (omega arith) o cleared in
         record {
           past = past;
@@ -164,7 +148,7 @@ module _ (v : ℕ) (t row scratch : List ℕ) (ok : checked (tracing v) (lent t 
             written = ap (λ (x : List ℕ). x ∷ []) writes.written;
           };
         }
-    traced row' (Refused g place) (refused, same) cleared =
+    traced row' (Err r) (refused, same) cleared =
         inr (inr (record {
           past = past_eleven (tracing v) l ok (omega arith) o cleared;
           first = refused_finds refused;
@@ -185,19 +169,10 @@ traces_determined v l o o' k k' p q =
           ∙ sym q.written,
     )
 
--- an answer is told by what every call has of it
-pub answer_told : (r r' : Traced) → answer_of r ≡ answer_of r' → r ≡ r'
-answer_told (Accepted j) (Accepted k) e = ap Accepted (cc)
-answer_told (Accepted k) (Refused g place) e = let z : ◌≡◌ {A = ℕ} 0 1 = cc in absurd (omega arith)
-answer_told (Refused g place) (Accepted k) e = let z : ◌≡◌ {A = ℕ} 0 1 = cc in absurd (omega arith)
-answer_told (Refused g i) (Refused h j) e = ap₂ Refused (cc) (cc)
-
 -- two calls on what is lent alike answer alike and leave the same, but for which loop is shown
-pub path_fixed : (v : ℕ) (l : Lent) (e e' : Left) (r r' : Traced) → CallTraces v l e r → CallTraces v l e' r'
-    → ((r ≡ r') × (e ≡ e')) ⊎ BothLoops (tracing v) l e e' (answer_of r) (answer_of r')
-path_fixed v l e e' r r' p q =
-    ⊎_map (λ (a, b). (answer_told r r' a, b)) (λ loops. loops)
-    (contents_fixed (tracing v) l (traces_determined v l) e e' (answer_of r) (answer_of r') p q)
+pub path_fixed : (v : ℕ) (l : Lent) (e e' : Left) (r r' : Answer) → CallTraces v l e r → CallTraces v l e' r'
+    → ((r ≡ r') × (e ≡ e')) ⊎ BothLoops (tracing v) l e e' r r'
+path_fixed v l = contents_fixed (tracing v) l (traces_determined v l)
 
 -- ---- what its answers can be
 
@@ -205,7 +180,7 @@ path_fixed v l e e' r r' p q =
 pub path_refusals : (v : ℕ) (l : Lent) → Refusals (λ g place. (ground_number g ≡ 23) × (place ≡ v)) ((tracing v).later l)
 path_refusals v l =
     refuse_refusals (λ g place. (ground_number g ≡ 23) × (place ≡ v)) NotMarked v
-    (not (ltb v (length (circuit_of l)) && is_marked (certificate (circuit_of l) v))) check.Passed (refl, refl) (λ _. tt)
+    (not (ltb v (length (circuit_of l)) && is_marked (certificate (circuit_of l) v))) check.passed (refl, refl) (λ _. tt)
 
 module _ {v : ℕ} {l : Lent} {e : Left} {k : ℕ} (p : AcceptedWith (tracing v) l e k) where
   -- a row has at least one variable

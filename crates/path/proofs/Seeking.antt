@@ -3,62 +3,63 @@
 -- Assumes nothing.
 use mathlib.Core.Path.{◌≡◌, sym, ap, ◌∙◌, subst}
 use mathlib.Core.Bool.{Bool, true, false, not}
-use mathlib.Core.List.{List, [], ◌∷◌}
+use mathlib.Core.List.{List}
 use Prim.Native.Nat.{ℕ, ◌+◌, ◌-◌, ◌*◌, ◌<◌}
 use native.Mathlib.Nat.{le_refl}
 use native.Mathlib.Omega.{arith}
 use lib.Dec.{T}
 use lib.ListN.{length, get_or, set, length-set}
 use lib.Seq.{get_or-set_same, get_or-set_other}
-use Rattle.net.specs.Tests.{member}
 use Rattle.net.proofs.Bools.{T_of, not_both}
 use Rattle.net.proofs.Cases.{by_le}
 use Rattle.buffer.specs.Kept.{KeptOutside}
-use Rattle.buffer.proofs.Filled.{outside_none, outside_set, outside_trans}
+use Rattle.buffer.proofs.Filled.{outside_none, outside_set}
 use Rattle.circuit.specs.declared.record.Record.{Record}
 use Rattle.circuit.specs.Record.{input_of}
 use Rattle.circuit.specs.Reading.{fields_at, decode}
-use Rattle.circuit.specs.Circuit.{Circuit, circuit, record_of}
+use Rattle.circuit.specs.Circuit.{Circuit, record_of}
+use Rattle.circuit.specs.declared.table.Table.{Table}
+use Rattle.circuit.specs.Tables.{circuit_of}
 use Rattle.circuit.proofs.Tables.{Inside, circuit_length, circuit_record, circuit_inside}
 use Rattle.fact.specs.declared.Fact.TheVariants.{Marked}
 use Rattle.fact.specs.TwoRuns.{is_secret}
 use Rattle.fact.proofs.Certificate.{certificate_least}
 use Rattle.path.specs.Row.{uses_under, secret, Row, PathOf}
 use Rattle.path.specs.Search.{facts, FactsStand, queued, parent, found, Searching, Found, Falls, Depth, chain}
-use Rattle.path.proofs.Marked.{marked_has_row}
+use Rattle.path.proofs.Marked.{member_some, marked_has_row}
 use Rattle.path.proofs.Queues.{queue_begun, queue_few}
 use Rattle.path.proofs.Chain.{row_left, chain_path}
 use Rattle.path.proofs.Visits.{facts_kept}
 
 -- the search from v under way, in a scratch that was `entry` as it began
-pub record Seeking (t : List ℕ) (n v : ℕ) (entry s : List ℕ) (head tail : ℕ) : Type 0 where
-  pub searching : Searching t n s head tail 0
-  pub begins : queued n s 0 ≡ v
-  pub kept : KeptOutside (n * 3) (n * 6) entry s
+pub record Seeking (t : Table) (v : ℕ) (entry s : List ℕ) (head tail : ℕ) : Type 0 where
+  pub searching : Searching t s head tail 0
+  pub begins : queued t.records s 0 ≡ v
+  pub kept : KeptOutside (t.records * 3) (t.records * 6) entry s
 
 -- ---- as it begins
 
-module _ {t : List ℕ} {n v : ℕ} {s : List ℕ} (stand : FactsStand t n s) (v_below : v < n)
-    (marked : facts t n v ≡ Marked) (zeros : (u : ℕ) → u < n → found n s u ≡ 0) where
+module _ {t : Table} {v : ℕ} {s : List ℕ} (stand : FactsStand t s) (v_below : v < t.records)
+    (marked : facts t v ≡ Marked) (zeros : (u : ℕ) → u < t.records → found t.records s u ≡ 0) where
   abbrev first : List ℕ
-  first = set s (n * 3) v
+  first = set s (t.records * 3) v
 
   abbrev begun : List ℕ
-  begun = set first (n * 5 + v) 1
+  begun = set first (t.records * 5 + v) 1
 
-  pub begun_kept : KeptOutside (n * 3) (n * 6) s begun
+  pub begun_kept : KeptOutside (t.records * 3) (t.records * 6) s begun
   begun_kept =
-      outside_set (n * 5 + v) 1 (omega arith) (omega arith)
-      (outside_set (n * 3) v (omega arith) (omega arith) (outside_none (n * 3) (n * 6) s))
+      outside_set (t.records * 5 + v) 1 (omega arith) (omega arith)
+      (outside_set (t.records * 3) v (omega arith) (omega arith) (outside_none (t.records * 3) (t.records * 6) s))
 
-  begun_first : queued n begun 0 ≡ v
+  begun_first : queued t.records begun 0 ≡ v
   begun_first =
-      let place : n * 3 + 0 ≡ n * 3 = omega arith in
+      let place : t.records * 3 + 0 ≡ t.records * 3 = omega arith in
       ap (λ (i : ℕ). get_or begun i 0) place
-      ∙ get_or-set_other first (n * 5 + v) (n * 3) 1 0 (λ e. omega arith)
-      ∙ get_or-set_same s (n * 3) v 0 (omega (arith, stand.lent))
+      ∙ get_or-set_other first (t.records * 5 + v) (t.records * 3) 1 0 (λ e. omega arith)
+      ∙ get_or-set_same s (t.records * 3) v 0 (omega (arith, stand.lent))
 
-  pub seeking_begun : Seeking t n v begun begun 0 1
+  pub seeking_begun : Seeking t v begun begun 0 1
   seeking_begun =
       record {
         searching = record {
@@ -66,51 +67,46 @@ module _ {t : List ℕ} {n v : ℕ} {s : List ℕ} (stand : FactsStand t n s) (v
           queue =
               queue_begun v_below marked begun_first zeros
               (λ u ne.
-              get_or-set_other first (n * 5 + v) (n * 5 + u) 1 0 (λ e. ne (omega arith))
-              ∙ get_or-set_other s (n * 3) (n * 5 + u) v 0 (λ e. omega arith))
-              (get_or-set_same first (n * 5 + v) 1 0 (simp length-set (omega (arith, stand.lent))));
+              get_or-set_other first (t.records * 5 + v) (t.records * 5 + u) 1 0 (λ e. ne (omega arith))
+              ∙ get_or-set_other s (t.records * 3) (t.records * 5 + u) v 0 (λ e. omega arith))
+              (get_or-set_same first (t.records * 5 + v) 1 0 (simp length-set (omega (arith, stand.lent))));
         };
         begins = begun_first;
-        kept = outside_none (n * 3) (n * 6) begun;
+        kept = outside_none (t.records * 3) (t.records * 6) begun;
       }
 
 -- ---- as it goes on
 
-some_member : (u : ℕ) (l : List ℕ) → T (member u l) → 0 < length l
-unfolding member
-some_member u [] m = absurd m
-some_member u (x ∷ xs) m = omega arith
-
-module _ {t : List ℕ} {n : ℕ} {s : List ℕ} {head tail : ℕ} (search : Searching t n s head tail 0) where
+module _ {t : Table} {s : List ℕ} {head tail : ℕ} (search : Searching t s head tail 0) where
   abbrev c : Circuit
-  c = circuit t n
+  c = circuit_of t
 
-  size : n ≡ length c
-  size = sym (circuit_length t n)
+  size : t.records ≡ length c
+  size = sym (circuit_length t.bytes.now t.records)
 
   inside : Inside c
-  inside = circuit_inside t n search.facts_stand.table.valid
+  inside = circuit_inside t.bytes.now t.records t.checked.valid
 
   -- every variable of the queue has a row
-  queued_row : (i : ℕ) → i < tail → (row : List ℕ) × Row c (facts t n) (queued n s i) row
+  queued_row : (i : ℕ) → i < tail → (row : List ℕ) × Row c (facts t) (queued t.records s i) row
   queued_row i h =
       let (below, is, at) = search.queue.variables i h in
-      marked_has_row c inside (facts t n) (certificate_least c inside search.facts_stand.no_loop) (queued n s i)
+      marked_has_row c inside (facts t) (certificate_least c inside search.facts_stand.no_loop) (queued t.records s i)
       (omega (arith, size)) is
 
   -- so the search is not at the end of the queue
   pub search_left : head < tail
   search_left = let (row, r) = queued_row 0 search.queue.some in row_left size search.queue r
 
-  pub head_below : queued n s head < n
+  pub head_below : queued t.records s head < t.records
   head_below = (search.queue.variables head search_left).0
 
-  pub head_room : head < n
+  pub head_room : head < t.records
   head_room = omega (arith, search_left, queue_few search.queue)
 
   -- what is no secret input uses something
-  pub head_uses : {u : ℕ} → u ≡ queued n s head → T (not (secret c u))
-      → 0 < length (uses_under (facts t n) (record_of c u))
+  pub head_uses : {u : ℕ} → u ≡ queued t.records s head → T (not (secret c u))
+      → 0 < length (uses_under (facts t) (record_of c u))
   head_uses {u} here open-head =
       let (row, r) = queued_row head search_left in
       by_le (length row) 1
@@ -119,34 +115,28 @@ module _ {t : List ℕ} {n : ℕ} {s : List ℕ} {head tail : ℕ} (search : Sea
       not_both (secret c u)
       (subst (λ (x : ℕ). T (secret c x)) (ap (λ (i : ℕ). get_or row i 0) last ∙ r.first ∙ sym here) r.last) open-head)
       (λ long.
-      subst (λ (x : ℕ). 0 < length (uses_under (facts t n) (record_of c x))) (r.first ∙ sym here)
-      (some_member _ _ (r.next 0 (omega arith))))
+      subst (λ (x : ℕ). 0 < length (uses_under (facts t) (record_of c x))) (r.first ∙ sym here)
+      (member_some _ _ (r.next 0 (omega arith))))
 
   -- whether it is a secret input, by its record
-  module _ {u : ℕ} {is : Bool} (here : u ≡ queued n s head)
-      (read : is ≡ is_secret (input_of (decode (fields_at t (u * 16))))) where
-    head_read : is ≡ secret c (queued n s head)
+  module _ {u : ℕ} {is : Bool} (here : u ≡ queued t.records s head)
+      (read : is ≡ is_secret (input_of (decode (fields_at t.bytes.now (u * 16))))) where
+    head_read : is ≡ secret c (queued t.records s head)
     head_read =
         read
-        ∙ ap (λ (r : Record). is_secret (input_of r)) (sym (circuit_record t n u (omega (arith, head_below))))
+        ∙ ap (λ (r : Record). is_secret (input_of r))
+        (sym (circuit_record t.bytes.now t.records u (omega (arith, head_below))))
         ∙ ap (secret c) here
 
-    pub head_secret : is ≡ true → T (secret c (queued n s head))
+    pub head_secret : is ≡ true → T (secret c (queued t.records s head))
     head_secret e = T_of _ (sym head_read ∙ e)
 
     pub head_open : is ≡ false → T (not (secret c u))
     head_open e = rw (here, ← head_read, e) tt
 
--- one more is done
-pub seeking_more : {t : List ℕ} {n v : ℕ} {entry s s' : List ℕ} {head tail tail' : ℕ}
-    → Seeking t n v entry s head tail → Searching t n s' (head + 1) tail' 0 → queued n s' 0 ≡ queued n s 0
-    → KeptOutside (n * 3) (n * 6) s s' → Seeking t n v entry s' (head + 1) tail'
-seeking_more seek search same kept =
-    record { searching = search; begins = same ∙ seek.begins; kept = outside_trans seek.kept kept }
-
 -- a secret input at the head ends it
-pub seeking_found : {t : List ℕ} {n v : ℕ} {entry s : List ℕ} {head tail : ℕ} → Seeking t n v entry s head tail
-    → T (secret (circuit t n) (queued n s head)) → Found t n v s head
+pub seeking_found : {t : Table} {v : ℕ} {entry s : List ℕ} {head tail : ℕ} → Seeking t v entry s head tail
+    → T (secret (circuit_of t) (queued t.records s head)) → Found t v s head
 seeking_found {tail = tail} seek end =
     record {
       tail = tail;
@@ -158,17 +148,18 @@ seeking_found {tail = tail} seek end =
 
 -- ---- what is found
 
-module _ {t : List ℕ} {n v : ℕ} {s : List ℕ} {i : ℕ} (found_at : Found t n v s i) where
-  pub found_room : i < n
+module _ {t : Table} {v : ℕ} {s : List ℕ} {i : ℕ} (found_at : Found t v s i) where
+  pub found_room : i < t.records
   found_room = head_room found_at.searching
 
-  pub found_falls : Falls n s i
+  pub found_falls : Falls t.records s i
   found_falls j some most = (found_at.searching.queue.linked j some (omega (arith, found_at.within))).0
 
   -- the way to it is the path
-  pub found_path : {d : ℕ} → Depth (parent n s) i d
-      → PathOf (circuit t n) (facts t n) v (chain (queued n s) (parent n s) d i)
+  pub found_path : {d : ℕ} → Depth (parent t.records s) i d
+      → PathOf (circuit_of t) (facts t) v (chain (queued t.records s) (parent t.records s) d i)
   found_path {d} deep =
-      subst (λ (x : ℕ). PathOf (circuit t n) (facts t n) x (chain (queued n s) (parent n s) d i)) found_at.begins
+      subst (λ (x : ℕ). PathOf (circuit_of t) (facts t) x (chain (queued t.records s) (parent t.records s) d i))
+      found_at.begins
       (chain_path (size found_at.searching) found_at.searching.queue found_at.within found_at.is_secret_lem
       deep)

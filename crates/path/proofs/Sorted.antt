@@ -1,152 +1,83 @@
--- Up to three numbers in ascending order: one, two, and a third put before, between or behind two.
+-- Three numbers put in order by comparing two of them at a time; of fewer, some stand more than once.
 -- Assumes nothing.
-use mathlib.Core.Path.{◌≡◌, ◌∙◌}
-use mathlib.Core.Logic.{◌⊎◌, inl, inr, ⊎_elim}
+use mathlib.Core.Path.{◌≡◌, refl, ap, ◌∙◌}
+use mathlib.Core.Bool.{Bool, true, false, ◌||◌}
 use mathlib.Core.List.{List, [], ◌∷◌}
-use Prim.Native.Nat.{ℕ, ◌≤◌}
-use native.Mathlib.Nat.{le_refl}
+use Prim.Native.Nat.{ℕ, zero, suc, ◌+◌, ◌≤◌, ◌<◌, min, max}
 use native.Mathlib.Omega.{arith}
-use lib.Dec.{T, eqb, eqb→eq}
+use native.Mathlib.Nat.{le_refl}
+use lib.Dec.{eqb}
+use lib.ListN.{get_or}
 use Rattle.net.specs.Tests.{member}
-use Rattle.net.proofs.Bools.{or_cases, or_right, member_1, member_2}
-use Rattle.path.specs.declared.uses.Three.{Three}
+use Rattle.net.proofs.Cases.{by_le}
 use Rattle.path.specs.Uses.{Sorted}
-use Rattle.path.proofs.Marked.{member_only}
 
 -- ---- numbers of a list
 
-member_cases : (u x : ℕ) (l : List ℕ) → T (member u (x ∷ l)) → (u ≡ x) ⊎ T (member u l)
+-- the order of two does not matter
+swapped : (x y : ℕ) (l : List ℕ) (u : ℕ) → member u (x ∷ y ∷ l) ≡ member u (y ∷ x ∷ l)
 unfolding member
-member_cases u x l t = or_cases (eqb u x) (member u l) t (λ e. inl (eqb→eq u x e)) (λ k. inr k)
+swapped x y l u = go (eqb u x) (eqb u y) (member u l)
+  where
+    go : (a b c : Bool) → (a || (b || c)) ≡ (b || (a || c))
+    go true true c = refl
+    go true false c = refl
+    go false true c = refl
+    go false false c = refl
 
-member_two : (u a b : ℕ) → T (member u (a ∷ b ∷ [])) → (u ≡ a) ⊎ (u ≡ b)
-member_two u a b t = ⊎_elim inl (λ k. inr (member_only u b k)) (member_cases u a (b ∷ []) t)
-
-member_more : (u x : ℕ) (l : List ℕ) → T (member u l) → T (member u (x ∷ l))
+-- nor does it matter whether one stands twice
+twice : (x : ℕ) (l : List ℕ) (u : ℕ) → member u (x ∷ x ∷ l) ≡ member u (x ∷ l)
 unfolding member
-member_more u x l t = or_right (eqb u x) (member u l) t
+twice x l u = go (eqb u x) (member u l)
+  where
+    go : (a b : Bool) → (a || (a || b)) ≡ (a || b)
+    go true b = refl
+    go false true = refl
+    go false false = refl
 
--- ---- the ends of a list of two
+before : (x : ℕ) (l k : List ℕ) (u : ℕ) → member u l ≡ member u k → member u (x ∷ l) ≡ member u (x ∷ k)
+unfolding member
+before x l k u e = ap (λ (b : Bool). eqb u x || b) e
 
--- the lower and the higher number of the list, which has no others
-record Ends (l : List ℕ) (low high : ℕ) : Type 0 where
-  ascend : low ≤ high
-  low_in : T (member low l)
-  high_in : T (member high l)
-  all : (u : ℕ) → T (member u l) → (u ≡ low) ⊎ (u ≡ high)
+-- two in order are the two
+compared : (x y : ℕ) (l : List ℕ) (u : ℕ) → member u (min x y ∷ max x y ∷ l) ≡ member u (x ∷ y ∷ l)
+compared x y l u =
+    by_le x y
+    (λ h. let low : min x y ≡ x = omega arith in let high : max x y ≡ y = omega arith in rw (low, high))
+    (λ h.
+    let low : min x y ≡ y = omega arith in
+    let high : max x y ≡ x = omega arith in
+    rw (low, high) (swapped y x l u))
 
-ends_two : {l : List ℕ} {low high : ℕ} → Ends l low high
-    → Sorted l (record { first = low; second = high; third = high })
-ends_two e =
+ascending : (x y z : ℕ) → x ≤ y → y ≤ z → (i : ℕ) → i + 1 < 3
+    → get_or (x ∷ y ∷ z ∷ []) i 0 ≤ get_or (x ∷ y ∷ z ∷ []) (i + 1) 0
+ascending x y z h k zero l = h
+ascending x y z h k (suc zero) l = k
+ascending x y z h k (suc (suc i)) l = absurd (omega arith)
+
+-- ---- three, two and one
+
+pub sorted_three : (a b c : ℕ) → let p = min b c in let q = max b c in let r = max a p in
+    Sorted (a ∷ b ∷ c ∷ []) (min a p ∷ min r q ∷ max r q ∷ [])
+sorted_three a b c =
+    let p = min b c in
+    let q = max b c in
+    let r = max a p in
     record {
-      low = e.ascend;
-      high = le_refl _;
-      first_in = e.low_in;
-      second_in = e.high_in;
-      third_in = e.high_in;
-      all = λ u m. ⊎_elim inl (λ k. inr (inr k)) (e.all u m);
+      three = refl;
+      ascends = ascending (min a p) (min r q) (max r q) (omega arith) (omega arith);
+      members = λ u.
+          before (min a p) _ _ u (compared r q [] u) ∙ compared a p (q ∷ []) u ∙ before a _ _ u (compared b c [] u);
     }
 
--- of three numbers in order that are of two, the middle one is the first or the last
-middle_end : {a b x y z : ℕ} → (x ≡ a) ⊎ (x ≡ b) → (y ≡ a) ⊎ (y ≡ b) → (z ≡ a) ⊎ (z ≡ b) → x ≤ y → y ≤ z
-    → (y ≡ x) ⊎ (y ≡ z)
-middle_end (inl e) (inl f) k low high = inl (omega arith)
-middle_end (inl e) (inr f) (inl k) low high = inl (omega arith)
-middle_end (inl e) (inr f) (inr k) low high = inr (omega arith)
-middle_end (inr e) (inl f) (inl k) low high = inr (omega arith)
-middle_end (inr e) (inl f) (inr k) low high = inl (omega arith)
-middle_end (inr e) (inr f) k low high = inl (omega arith)
+pub sorted_two : {a b : ℕ} {r : List ℕ} → Sorted (a ∷ b ∷ b ∷ []) r → Sorted (a ∷ b ∷ []) r
+sorted_two {a} {b} s =
+    record { three = s.three; ascends = s.ascends; members = λ u. s.members u ∙ before a _ _ u (twice b [] u) }
 
-two_ends : {a b : ℕ} {r : Three} → Sorted (a ∷ b ∷ []) r → Ends (a ∷ b ∷ []) r.first r.third
-two_ends {a} {b} {r} s =
-    let middle =
-    middle_end (member_two r.first a b s.first_in) (member_two r.second a b s.second_in)
-    (member_two r.third a b s.third_in) s.low s.high in
-    record {
-      ascend = omega (arith, s.low, s.high);
-      low_in = s.first_in;
-      high_in = s.third_in;
-      all = λ u m. ⊎_elim inl (⊎_elim (λ e. ⊎_elim (λ k. inl (e ∙ k)) (λ k. inr (e ∙ k)) middle) inr) (s.all u m);
-    }
-
--- ---- one and two
-
-pub sorted_one : (a : ℕ) → Sorted (a ∷ []) (record { first = a; second = a; third = a })
+pub sorted_one : (a : ℕ) → Sorted (a ∷ []) (a ∷ a ∷ a ∷ [])
 sorted_one a =
     record {
-      low = le_refl _;
-      high = le_refl _;
-      first_in = member_1 _ _;
-      second_in = member_1 _ _;
-      third_in = member_1 _ _;
-      all = λ u m. inl (member_only u a m);
+      three = refl;
+      ascends = ascending a a a (le_refl _) (le_refl _);
+      members = λ u. twice a (a ∷ []) u ∙ twice a [] u;
     }
-
-pub sorted_two : (a b : ℕ) → a ≤ b → Sorted (a ∷ b ∷ []) (record { first = a; second = b; third = b })
-sorted_two a b h =
-    ends_two (record { ascend = h; low_in = member_1 _ _; high_in = member_2 _ _ _; all = λ u m. member_two u a b m })
-
-pub sorted_swapped : (a b : ℕ) → b ≤ a → Sorted (a ∷ b ∷ []) (record { first = b; second = a; third = a })
-sorted_swapped a b h =
-    ends_two
-    (record {
-      ascend = h;
-      low_in = member_2 _ _ _;
-      high_in = member_1 _ _;
-      all = λ u m. ⊎_elim inr inl (member_two u a b m);
-    })
-
--- ---- a third
-
-module _ {b c : ℕ} {r : Three} (a : ℕ) (s : Sorted (b ∷ c ∷ []) r) where
-  abbrev ends : Ends (b ∷ c ∷ []) r.first r.third
-  ends = two_ends s
-
-  here : T (member a (a ∷ b ∷ c ∷ []))
-  here = member_1 _ _
-
-  low_there : T (member r.first (a ∷ b ∷ c ∷ []))
-  low_there = member_more _ a _ ends.low_in
-
-  high_there : T (member r.third (a ∷ b ∷ c ∷ []))
-  high_there = member_more _ a _ ends.high_in
-
-  one_of : {P : Type 0} (u : ℕ) → T (member u (a ∷ b ∷ c ∷ [])) → (u ≡ a → P) → (u ≡ r.first → P)
-      → (u ≡ r.third → P) → P
-  one_of u m f g k = ⊎_elim f (λ t. ⊎_elim g k (ends.all u t)) (member_cases u a _ m)
-
-  pub third_before : a ≤ r.first
-      → Sorted (a ∷ b ∷ c ∷ []) (record { first = a; second = r.first; third = r.third })
-  third_before h =
-      record {
-        low = h;
-        high = ends.ascend;
-        first_in = here;
-        second_in = low_there;
-        third_in = high_there;
-        all = λ u m. one_of u m inl (λ e. inr (inl e)) (λ e. inr (inr e));
-      }
-
-  pub third_between : r.first ≤ a → a ≤ r.third
-      → Sorted (a ∷ b ∷ c ∷ []) (record { first = r.first; second = a; third = r.third })
-  third_between h k =
-      record {
-        low = h;
-        high = k;
-        first_in = low_there;
-        second_in = here;
-        third_in = high_there;
-        all = λ u m. one_of u m (λ e. inr (inl e)) inl (λ e. inr (inr e));
-      }
-
-  pub third_behind : r.third ≤ a
-      → Sorted (a ∷ b ∷ c ∷ []) (record { first = r.first; second = r.third; third = a })
-  third_behind h =
-      record {
-        low = ends.ascend;
-        high = h;
-        first_in = low_there;
-        second_in = high_there;
-        third_in = here;
-        all = λ u m. one_of u m (λ e. inr (inr e)) inl (λ e. inr (inl e));
-      }

@@ -1,7 +1,7 @@
 -- The loops over the way from a place of the queue up to its beginning: the steps counted, and the variables written
 -- from the last to the first.
 -- Assumes nothing.
-use mathlib.Core.Path.{◌≡◌, refl, sym, ap, ◌∙◌}
+use mathlib.Core.Path.{◌≡◌, sym, ap, ◌∙◌}
 use mathlib.Core.List.{List, ◌++◌}
 use Prim.Native.Nat.{ℕ, zero, suc, ◌+◌, ◌-◌, ◌≤◌, ◌<◌}
 use native.Mathlib.Nat.{not-suc-le-zero, le_refl}
@@ -18,13 +18,6 @@ use Rattle.path.proofs.Chain.{chain_length, chain_before, chain_end, depth_paren
 pub record Climbed (p : ℕ → ℕ) (at i steps : ℕ) : Type 0 where
   pub most : steps + i ≤ at
   pub deep : (e : ℕ) → Depth p i e → Depth p at (steps + e)
-
-pub climbed_none : (p : ℕ → ℕ) (at : ℕ) → Climbed p at at 0
-climbed_none p at =
-    record {
-      most = omega arith;
-      deep = λ e d. let same : 0 + e ≡ e = omega arith in rw same d;
-    }
 
 module _ {p : ℕ → ℕ} {at i steps : ℕ} (climbed : Climbed p at i steps) where
   pub climbed_more : {up : ℕ} → 0 < i → p i < i → up ≡ p i → Climbed p at up (steps + 1)
@@ -54,19 +47,6 @@ pub record Written (q p : ℕ → ℕ) (at steps : ℕ) (entry row : List ℕ) (
   pub long : length row ≡ length entry
   pub here : (j : ℕ) → k < j → j ≤ steps → get_or row j 0 ≡ get_or (chain q p steps at) j 0
   pub beyond : (j : ℕ) → steps < j → get_or row j 0 ≡ get_or entry j 0
-
-pub written_none : {p : ℕ → ℕ} {at steps : ℕ} (q : ℕ → ℕ) (row : List ℕ) → Depth p at steps
-    → Written q p at steps row row at steps
-written_none q row deep =
-    record {
-      low = le_refl _;
-      most = le_refl _;
-      deep = deep;
-      same = λ j h. refl;
-      long = refl;
-      here = λ j h l. absurd (omega arith);
-      beyond = λ j h. refl;
-    }
 
 module _ {q p : ℕ → ℕ} {at steps : ℕ} {entry row : List ℕ} where
   module _ {i k : ℕ} (written : Written q p at steps entry row i k) where

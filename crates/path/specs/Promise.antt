@@ -3,16 +3,12 @@
 -- Assumes nothing.
 use Rattle.std.specs.Prelude.{◌≡◌, refl, not, ◌&&◌, List, [], ◌∷◌, ◌++◌, ℕ, ◌≤◌, ltb, length, drop}
 use Rattle.circuit.specs.declared.refusal.Ground.TheVariants.{NotMarked}
-use Rattle.circuit.specs.declared.refusal.Check.{Check}
-use Rattle.circuit.specs.declared.refusal.Check.TheVariants.{Passed}
-use Rattle.circuit.specs.Refusal.{refuse}
+use Rattle.circuit.specs.Refusal.{Check, passed, refuse}
 use Rattle.circuit.specs.Circuit.{Circuit}
 use Rattle.circuit.specs.Checks.{check_records}
 use Rattle.fact.specs.Certificate.{LeastStore, certificate}
-use Rattle.call.specs.Call.{Lent, Left, Answer, accepted, refused, Call, output_of, size, circuit_of, Promises}
+use Rattle.call.specs.Call.{Lent, Left, Answer, Call, output_of, size, circuit_of, Promises}
 use Rattle.call.specs.Asks.{found_of}
-use Rattle.path.specs.declared.Traced.{Traced}
-use Rattle.path.specs.declared.Traced.TheVariants.{Accepted, Refused}
 use Rattle.path.specs.Row.{is_marked, PathOf}
 
 -- what the path call asks a record: 16-bit numbers of the row, and of scratch
@@ -24,7 +20,7 @@ room = 8
 
 -- ground 23 of variable v: it does not exist, or the certificate does not call it marked; its place is the number given
 abbrev pub check_marked : Circuit → ℕ → Check
-check_marked c v = refuse NotMarked v (not (ltb v (length c) && is_marked (certificate c v))) Passed
+check_marked c v = refuse NotMarked v (not (ltb v (length c) && is_marked (certificate c v))) passed
 
 -- of variable v
 module _ (v : ℕ) where
@@ -43,14 +39,9 @@ module _ (v : ℕ) where
   tracing =
       record { asks = each ∷ []; room = room; later = λ l. check_marked (circuit_of l) v; Accepts = Traces }
 
--- its answer as every call has one
-abbrev pub answer_of : Traced → Answer
-answer_of (Accepted k) = accepted k
-answer_of (Refused g place) = refused g place
-
 -- the promise: what holds of the buffers and the answer
-abbrev pub CallTraces : ℕ → Lent → Left → Traced → Type 0
-CallTraces v l e r = Promises (tracing v) l e (answer_of r)
+abbrev pub CallTraces : ℕ → Lent → Left → Answer → Type 0
+CallTraces v l e r = Promises (tracing v) l e r
 
 -- what it asks, computed: of a table of one record one number of the row and eight of scratch, and one less of either
 -- is refused

@@ -4,8 +4,9 @@
 -- Assumes nothing.
 use Rattle.std.specs.Prelude.{◌≡◌, ◌⊎◌, not, List, [], ◌∷◌, ◌++◌, ℕ, zero, suc, ◌+◌, ◌*◌, ◌≤◌, ◌<◌, T, length, get_or, set}
 use Rattle.buffer.specs.Store.{Stands}
-use Rattle.circuit.specs.Circuit.{Circuit, circuit, NoLoop}
-use Rattle.circuit.specs.Checks.{Checked}
+use Rattle.circuit.specs.Circuit.{Circuit, NoLoop}
+use Rattle.circuit.specs.declared.table.Table.{Table}
+use Rattle.circuit.specs.Tables.{circuit_of}
 use Rattle.fact.specs.declared.Fact.{Fact}
 use Rattle.fact.specs.declared.Fact.TheVariants.{Marked}
 use Rattle.fact.specs.Fact.{fact_byte}
@@ -15,15 +16,14 @@ use Rattle.analysis.specs.Cells.{words, room}
 use Rattle.path.specs.Row.{secret, Under}
 
 -- the facts of a table's certificate
-abbrev pub facts : List ℕ → ℕ → ℕ → Fact
-facts t n = certificate (circuit t n)
+abbrev pub facts : Table → ℕ → Fact
+facts t = certificate (circuit_of t)
 
--- they stand in front of the scratch, of a checked table without a loop
-pub record FactsStand (t : List ℕ) (n : ℕ) (s : List ℕ) : Type 0 where
-  pub table : Checked t n
-  pub no_loop : NoLoop (circuit t n)
-  pub lent : n * room ≤ length s
-  pub stand : Stands words 0 n (facts t n) s
+-- they stand in front of the scratch, of a table without a loop
+pub record FactsStand (t : Table) (s : List ℕ) : Type 0 where
+  pub no_loop : NoLoop (circuit_of t)
+  pub lent : t.records * room ≤ length s
+  pub stand : Stands words 0 t.records (facts t) s
 
 -- the variable at place i of the queue
 abbrev pub queued : ℕ → List ℕ → ℕ → ℕ
@@ -64,9 +64,10 @@ chain q p zero i = q i ∷ []
 chain q p (suc d) i = chain q p d (p i) ++ (q i ∷ [])
 
 -- a search of a table's marked variables under way
-pub record Searching (t : List ℕ) (n : ℕ) (s : List ℕ) (head tail bound : ℕ) : Type 0 where
-  pub facts_stand : FactsStand t n s
-  pub queue : Queue (circuit t n) (facts t n) n (queued n s) (parent n s) (found n s) head tail bound
+pub record Searching (t : Table) (s : List ℕ) (head tail bound : ℕ) : Type 0 where
+  pub facts_stand : FactsStand t s
+  pub queue : Queue (circuit_of t) (facts t) t.records (queued t.records s) (parent t.records s) (found t.records s)
+      head tail bound
 
 -- byte 0 of u's fact says that it is marked, and it is not found yet
 abbrev pub Unfound : ℕ → ℕ → List ℕ → Type 0
@@ -81,12 +82,12 @@ VisitedOne n head u entry tail exit r =
     × (r ≡ tail + 1))
 
 -- the queue, which begins at v, has its first secret input at place i
-pub record Found (t : List ℕ) (n v : ℕ) (s : List ℕ) (i : ℕ) : Type 0 where
+pub record Found (t : Table) (v : ℕ) (s : List ℕ) (i : ℕ) : Type 0 where
   pub tail : ℕ
-  pub searching : Searching t n s i tail 0
-  pub begins : queued n s 0 ≡ v
+  pub searching : Searching t s i tail 0
+  pub begins : queued t.records s 0 ≡ v
   pub within : i < tail
-  pub is_secret_lem : T (secret (circuit t n) (queued n s i))
+  pub is_secret_lem : T (secret (circuit_of t) (queued t.records s i))
 
 -- every place up to `at` but the first has its parent before it
 abbrev pub Falls : ℕ → List ℕ → ℕ → Type 0

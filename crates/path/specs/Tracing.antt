@@ -1,25 +1,24 @@
 -- What the parts of the path call leave in the row, for their contracts.
 -- Assumes nothing.
-use Rattle.std.specs.Prelude.{◌≡◌, List, ◌++◌, ℕ, ◌≤◌, length, drop}
-use Rattle.circuit.specs.declared.refusal.Check.TheVariants as check
-use Rattle.circuit.specs.Circuit.{circuit}
-use Rattle.path.specs.declared.Traced.{Traced}
-use Rattle.path.specs.declared.Traced.TheVariants.{Accepted, Refused}
+use Rattle.std.specs.Prelude.{◌≡◌, Ok, Err, List, ◌++◌, ℕ, ◌≤◌, length, drop}
+use Rattle.circuit.specs.Refusal.{passed}
+use Rattle.circuit.specs.Circuit.{Circuit}
+use Rattle.fact.specs.Certificate.{certificate}
+use Rattle.call.specs.Call.{Answer}
 use Rattle.path.specs.Row.{PathOf}
-use Rattle.path.specs.Search.{facts}
 use Rattle.path.specs.Promise.{check_marked}
 
 -- v's path, of k variables, stands in front of the row, and what lies past it is as it was
-pub record WritesPath (t : List ℕ) (n v : ℕ) (entry exit : List ℕ) (k : ℕ) : Type 0 where
+pub record WritesPath (c : Circuit) (n v : ℕ) (entry exit : List ℕ) (k : ℕ) : Type 0 where
   pub row : List ℕ
-  pub path : PathOf (circuit t n) (facts t n) v row
+  pub path : PathOf c (certificate c) v row
   pub row_length : length row ≡ k
   pub fits : k ≤ n
   pub written : exit ≡ row ++ drop k entry
 
 -- where ground 23 does not hold the path is written; else it is refused, and the row is as it was
-abbrev pub TracesMarked : List ℕ → ℕ → ℕ → List ℕ → List ℕ → Traced → Type 0
-TracesMarked t n v entry exit (Accepted k) =
-    (check_marked (circuit t n) v ≡ check.Passed) × WritesPath t n v entry exit k
-TracesMarked t n v entry exit (Refused g place) =
-    (check_marked (circuit t n) v ≡ check.Refused g place) × (exit ≡ entry)
+abbrev pub TracesMarked : Circuit → ℕ → ℕ → List ℕ → List ℕ → Answer → Type 0
+TracesMarked c n v entry exit (Ok k) =
+    (check_marked c v ≡ passed) × WritesPath c n v entry exit k
+TracesMarked c n v entry exit (Err r) =
+    (check_marked c v ≡ Err r) × (exit ≡ entry)

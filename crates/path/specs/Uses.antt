@@ -1,14 +1,10 @@
--- Up to three variables that a record uses, in ascending order, for contracts of what takes them so.
+-- The variables that a record uses, as three numbers in ascending order, for contracts of what takes them so.
 -- Assumes nothing.
-use Rattle.std.specs.Prelude.{◌≡◌, ◌⊎◌, List, ℕ, ◌≤◌, T}
+use Rattle.std.specs.Prelude.{◌≡◌, List, ℕ, ◌+◌, ◌≤◌, ◌<◌, length, get_or}
 use Rattle.net.specs.Tests.{member}
-use Rattle.path.specs.declared.uses.Three.{Three}
 
--- the three are the numbers of the list, some of them more than once where it has fewer, and ascend
-pub record Sorted (l : List ℕ) (r : Three) : Type 0 where
-  pub low : r.first ≤ r.second
-  pub high : r.second ≤ r.third
-  pub first_in : T (member r.first l)
-  pub second_in : T (member r.second l)
-  pub third_in : T (member r.third l)
-  pub all : (u : ℕ) → T (member u l) → (u ≡ r.first) ⊎ ((u ≡ r.second) ⊎ (u ≡ r.third))
+-- r is three numbers, those of the list and no others, some of them more than once where it has fewer, and they ascend
+pub record Sorted (l r : List ℕ) : Type 0 where
+  pub three : length r ≡ 3
+  pub ascends : (i : ℕ) → i + 1 < 3 → get_or r i 0 ≤ get_or r (i + 1) 0
+  pub members : (u : ℕ) → member u r ≡ member u l

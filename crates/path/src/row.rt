@@ -3,8 +3,6 @@ ghost use Rattle.std.specs.Prelude.{◌≡◌, ◌++◌, ◌+◌, ◌*◌, ◌�
 ghost use Rattle.analysis.specs.Cells.{room};
 ghost use Rattle.path.specs.Search.{queued, parent, Falls, Depth, chain};
 
-use circuit::number::wide;
-
 // How many steps place `at` is from the beginning.
 pub fn depth(s: &[u16], n: usize, at: usize) -> usize
     requires { (n * room ≤ length s.now) × (n ≤ 4096) × (at < n) × Falls n s.now at }
@@ -12,8 +10,9 @@ pub fn depth(s: &[u16], n: usize, at: usize) -> usize
 {
     let mut i = at;
     let mut steps: usize = 0;
+    // No `for`: each place is read from the one before, and how many there are is the answer.
     while 0 < i {
-        i = wide(s[n * 4 + i]);
+        i = usize::from(s[n * 4 + i]);
         steps += 1;
     }
     steps
@@ -28,11 +27,9 @@ pub fn write_row(s: &[u16], n: usize, at: usize, steps: usize, row: &mut [u16])
         ++ drop (steps + 1) row.old }
 {
     let mut i = at;
-    let mut k = steps;
-    while 0 < k {
-        row[k] = s[n * 3 + i];
-        i = wide(s[n * 4 + i]);
-        k -= 1;
+    for k in (0..steps).rev() {
+        row[k + 1] = s[n * 3 + i];
+        i = usize::from(s[n * 4 + i]);
     }
     row[0] = s[n * 3 + i];
 }

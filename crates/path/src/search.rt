@@ -4,7 +4,8 @@ ghost use Rattle.std.specs.Prelude.{◌≡◌, not, ℕ, ◌+◌, ◌*◌, ◌�
 ghost use Rattle.buffer.specs.Kept.{KeptOutside};
 ghost use Rattle.circuit.specs.Record.{input_of};
 ghost use Rattle.circuit.specs.Reading.{fields_at, decode};
-ghost use Rattle.circuit.specs.Circuit.{circuit, record_of};
+ghost use Rattle.circuit.specs.Circuit.{record_of};
+ghost use Rattle.circuit.specs.Tables.{circuit_of};
 ghost use Rattle.fact.specs.declared.Fact.TheVariants.{Marked};
 ghost use Rattle.fact.specs.TwoRuns.{is_secret};
 ghost use Rattle.analysis.specs.Cells.{room};
@@ -12,8 +13,7 @@ ghost use Rattle.path.specs.Row.{secret, uses_under};
 ghost use Rattle.path.specs.Search.{facts, FactsStand, queued, found, Unfound, VisitedOne, Searching, Found};
 
 use crate::uses::uses_under;
-use circuit::number::wide;
-use circuit::table::{code_at, kind_at};
+use circuit::table::{Table, code_at, kind_at};
 
 // Byte 0 of the fact marked.
 pub const MARKED: u16 = 3;
@@ -23,10 +23,7 @@ fn is_secret(t: &[u8], v: usize) -> bool
     requires { v * 16 + 16 ≤ length t.now }
     ensures { result ≡ is_secret (input_of (decode (fields_at t.now (v * 16)))) }
 {
-    if kind_at(t, v) != 0 {
-        return false;
-    }
-    2 <= code_at(t, v)
+    kind_at(t, v) == 0 && 2 <= code_at(t, v)
 }
 
 // Puts u at the end of the queue, as found from the one at `head`, if it is marked and not found yet. How many are
@@ -36,10 +33,7 @@ fn visit(s: &mut [u16], n: usize, head: usize, tail: usize, u: usize) -> usize
     requires tail_lt_n { Unfound n u s.old → tail < n }
     ensures { VisitedOne n head u s.old tail s.new result }
 {
-    if s[u * 3] != MARKED {
-        return tail;
-    }
-    if s[n * 5 + u] != 0 {
+    if s[u * 3] != MARKED || s[n * 5 + u] != 0 {
         return tail;
     }
     s[n * 3 + tail] = u as u16;
@@ -49,39 +43,43 @@ fn visit(s: &mut [u16], n: usize, head: usize, tail: usize, u: usize) -> usize
 }
 
 // Visits what v, at the head of the queue, uses, the lowest first. How many are queued.
-fn visit_uses(t: &[u8], n: usize, s: &mut [u16], head: usize, tail: usize, v: usize) -> usize
-    requires searching { Searching t.now n s.old head tail 0 }
-    requires head_lt_tail { (head < tail) × (v ≡ queued n s.old head) × T (not (secret (circuit t.now n) v)) }
-    requires nonzero { 0 < length (uses_under (facts t.now n) (record_of (circuit t.now n) v)) }
-    ensures searching_2 { Searching t.now n s.new (head + 1) result 0 }
-    ensures s_unchanged { queued n s.new 0 ≡ queued n s.old 0 }
-    ensures kept_outside { KeptOutside (n * 3) (n * 6) s.old s.new }
+fn visit_uses(table: &Table, s: &mut [u16], head: usize, tail: usize, v: usize) -> usize
+    requires searching { Searching table.now s.old head tail 0 }
+    requires v_at_head { (head < tail) × (v ≡ queued table.now.records s.old head)
+        × T (not (secret (circuit_of table.now) v)) }
+    requires uses_some { 0 < length (uses_under (facts table.now) (record_of (circuit_of table.now) v)) }
+    ensures searching_after { Searching table.now s.new (head + 1) result 0 }
+    ensures first_unchanged { queued table.now.records s.new 0 ≡ queued table.now.records s.old 0 }
+    ensures kept_outside { KeptOutside (table.now.records * 3) (table.now.records * 6) s.old s.new }
 {
-    let used = uses_under(t, n, s, v);
-    let one = visit(s, n, head, tail, used.first);
-    let two = visit(s, n, head, one, used.second);
-    visit(s, n, head, two, used.third)
+    let n = table.records;
+    let mut queued = tail;
+    for u in uses_under(table, s, v) {
+        queued = visit(s, n, head, queued, u);
+    }
+    queued
 }
 
 // Searches from v on. The place of the first secret input in the queue.
-pub fn search(t: &[u8], n: usize, s: &mut [u16], v: usize) -> usize
-    requires facts_stand { FactsStand t.now n s.old }
-    requires v_lt_n { (v < n) × (facts t.now n v ≡ Marked) }
-    requires by_index { (u : ℕ) → u < n → found n s.old u ≡ 0 }
-    ensures found { Found t.now n v s.new result }
-    ensures kept_outside { KeptOutside (n * 3) (n * 6) s.old s.new }
+pub fn search(table: &Table, s: &mut [u16], v: usize) -> usize
+    requires facts_stand { FactsStand table.now s.old }
+    requires v_marked { (v < table.now.records) × (facts table.now v ≡ Marked) }
+    requires none_found { (u : ℕ) → u < table.now.records → found table.now.records s.old u ≡ 0 }
+    ensures found { Found table.now v s.new result }
+    ensures kept_outside { KeptOutside (table.now.records * 3) (table.now.records * 6) s.old s.new }
 {
+    let n = table.records;
     s[n * 3] = v as u16;
     s[n * 5 + v] = 1;
     let mut head: usize = 0;
     let mut tail: usize = 1;
-    let answer = loop {
-        let u = wide(s[n * 3 + head]);
-        if is_secret(t, u) {
+    // No `for`: the queue grows as it is read, and a secret input comes before its end.
+    loop {
+        let u = usize::from(s[n * 3 + head]);
+        if is_secret(table.bytes, u) {
             break head;
         }
-        tail = visit_uses(t, n, s, head, tail, u);
+        tail = visit_uses(table, s, head, tail, u);
         head += 1;
-    };
-    answer
+    }
 }

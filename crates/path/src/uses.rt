@@ -1,105 +1,58 @@
-// What a record uses under the facts that stand in front of the scratch, as up to three numbers in ascending order.
+// What a record uses under the facts that stand in front of the scratch, as three numbers in ascending order, of which
+// some are the same where it uses fewer.
 ghost use Rattle.std.specs.Prelude.{◌≡◌, [], ◌∷◌, ◌*◌, ◌<◌, length};
 ghost use Rattle.circuit.specs.Reading.{fields_at};
-ghost use Rattle.circuit.specs.Circuit.{circuit, record_of};
+ghost use Rattle.circuit.specs.Circuit.{record_of};
+ghost use Rattle.circuit.specs.Tables.{circuit_of};
 ghost use Rattle.path.specs.Row.{uses_under};
 ghost use Rattle.path.specs.Uses.{Sorted};
 ghost use Rattle.path.specs.Search.{FactsStand, facts};
 
 use analysis::cell::load;
-use circuit::table::{a_at, b_at, c_at, kind_at};
+use circuit::table::{Table, a_at, b_at, c_at, kind_at};
 use fact::Fact;
 
-// Three numbers in ascending order; where there are fewer, some stand more than once.
-#[derive(Clone, Copy)]
-pub struct Three {
-    pub first: usize,
-    pub second: usize,
-    pub third: usize,
-}
-
-// Two numbers, the higher one twice.
-fn pair(a: usize, b: usize) -> Three
-    ensures { Sorted (a ∷ b ∷ []) result }
-{
-    if b < a {
-        return Three {
-            first: b,
-            second: a,
-            third: a,
-        };
-    }
-    Three {
-        first: a,
-        second: b,
-        third: b,
-    }
-}
-
-// Three numbers.
-fn triple(a: usize, b: usize, c: usize) -> Three
+// Three numbers in ascending order.
+fn sorted(a: usize, b: usize, c: usize) -> [usize; 3]
     ensures { Sorted (a ∷ b ∷ c ∷ []) result }
 {
-    let others = pair(b, c);
-    let low = others.first;
-    let high = others.third;
-    if a < low {
-        return Three {
-            first: a,
-            second: low,
-            third: high,
-        };
-    }
-    if a < high {
-        return Three {
-            first: low,
-            second: a,
-            third: high,
-        };
-    }
-    Three {
-        first: low,
-        second: high,
-        third: a,
-    }
+    let (b, c) = (b.min(c), b.max(c));
+    let (a, b) = (a.min(b), a.max(b));
+    [a, b.min(c), b.max(c)]
 }
 
 // What a multiplexer uses: the control and the arm taken, where the control is always a number, else all three.
-fn multiplexer_uses(t: &[u8], n: usize, s: &[u16], v: usize) -> Three
-    requires facts_stand { FactsStand t.now n s.now }
-    requires v_lt_n { v < n }
-    requires v_value { (fields_at t.now (v * 16)).kind ≡ 3 }
-    ensures { Sorted (uses_under (facts t.now n) (record_of (circuit t.now n) v)) result }
+fn multiplexer_uses(table: &Table, s: &[u16], v: usize) -> [usize; 3]
+    requires facts_stand { FactsStand table.now s.now }
+    requires v_in_bounds { v < table.now.records }
+    requires is_multiplexer { (fields_at table.now.bytes.now (v * 16)).kind ≡ 3 }
+    ensures { Sorted (uses_under (facts table.now) (record_of (circuit_of table.now) v)) result }
 {
-    let a = a_at(t, v);
-    let b = b_at(t, v);
-    let c = c_at(t, v);
+    let a = a_at(table.bytes, v);
+    let b = b_at(table.bytes, v);
+    let c = c_at(table.bytes, v);
     let control = load(s, a);
     match control {
-        Fact::Always(m) => if m == 0 { pair(a, c) } else { pair(a, b) },
-        Fact::Open => triple(a, b, c),
-        Fact::Marked => triple(a, b, c),
+        Fact::Always(0) => sorted(a, c, c),
+        Fact::Always(_) => sorted(a, b, b),
+        Fact::Open | Fact::Marked => sorted(a, b, c),
     }
 }
 
 // What v uses; it is no input and no constant, as it uses something.
-pub fn uses_under(t: &[u8], n: usize, s: &[u16], v: usize) -> Three
-    requires facts_stand { FactsStand t.now n s.now }
-    requires v_lt_n { v < n }
-    requires nonzero { 0 < length (uses_under (facts t.now n) (record_of (circuit t.now n) v)) }
-    ensures { Sorted (uses_under (facts t.now n) (record_of (circuit t.now n) v)) result }
+pub fn uses_under(table: &Table, s: &[u16], v: usize) -> [usize; 3]
+    requires facts_stand { FactsStand table.now s.now }
+    requires v_in_bounds { v < table.now.records }
+    requires uses_some { 0 < length (uses_under (facts table.now) (record_of (circuit_of table.now) v)) }
+    ensures { Sorted (uses_under (facts table.now) (record_of (circuit_of table.now) v)) result }
 {
-    let kind = kind_at(t, v);
+    let kind = kind_at(table.bytes, v);
     match kind {
-        3 => multiplexer_uses(t, n, s, v),
-        4 => {
-            let a = a_at(t, v);
-            Three {
-                first: a,
-                second: a,
-                third: a,
-            }
+        3 => multiplexer_uses(table, s, v),
+        4 => [a_at(table.bytes, v); 3],
+        _ => {
+            let b = b_at(table.bytes, v);
+            sorted(a_at(table.bytes, v), b, b)
         }
-        _ => pair(a_at(t, v), b_at(t, v)),
     }
 }

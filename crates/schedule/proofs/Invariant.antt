@@ -1,5 +1,4 @@
--- The laws of the walk's invariant, over functions: its start, a push, a use that is done, a pop, a root that is
--- passed over, and its end.
+-- The laws of the walk's invariant, over functions: its start, a push, a use that is done, a pop, and its end.
 -- Assumes nothing.
 use mathlib.Core.Path.{◌≡◌, refl, sym, ap, ◌∙◌}
 use mathlib.Core.List.{List}
@@ -273,29 +272,6 @@ module _ {c : Circuit} {n : ℕ} (len : length c ≡ n) (inside : Inside c) {slo
         tried = λ v l w. by_same v (slot top)
             (λ q. omega (arith, ap state' q))
             (λ q. rw (states v q) (inv.tried v l w));
-      }
-
-  -- the next root is no wire, or was visited
-  pub skip : root < n → (0 < last c root → 0 < state root) → Invariant c n slot state (root + 1) finished top
-  skip l h =
-      record {
-        place = inv.place;
-        root_most = omega arith;
-        apart = inv.apart;
-        top_most = inv.top_most;
-        count = inv.count;
-        finished_at = inv.finished_at;
-        stacked_at = inv.stacked_at;
-        state_most = inv.state_most;
-        finished_is = inv.finished_is;
-        stacked_is = inv.stacked_is;
-        after = inv.after;
-        done = inv.done;
-        chain = inv.chain;
-        waiting = inv.waiting;
-        tried = λ v l' w. by_same v root
-            (λ q. omega (arith, h (omega (arith, ap (last c) q)), ap state q))
-            (λ q. inv.tried v (omega arith) w);
       }
 
   -- only the slots below n count

@@ -6,7 +6,8 @@ use Prim.Native.Nat.{ℕ, ◌+◌, ◌-◌, ◌≤◌, ◌<◌}
 use native.Mathlib.Omega.{arith}
 use lib.ListN.{length, get_or, take, drop, replicate, length-append, get_or-append}
 use lib.Seq.{length-take-le, get_or-take, get_or-append-add}
-use Rattle.circuit.specs.Circuit.{circuit}
+use Rattle.circuit.specs.declared.table.Table.{Table}
+use Rattle.circuit.specs.Tables.{circuit_of}
 use Rattle.circuit.proofs.Tables.{circuit_length}
 use Rattle.schedule.specs.Schedule.{register_list, IsOrder, IsLoop}
 use Rattle.buffer.specs.Kept.{Kept, Filled}
@@ -16,19 +17,19 @@ use Rattle.net.proofs.Cases.{by_le}
 use Rattle.buffer.proofs.Filled.{filled_zero, in_part}
 use Rattle.schedule.proofs.Rotation.{shown_loop, shown_lowest}
 
-module _ {t : List ℕ} {n : ℕ} (part : ℕ) {s₀ s₁ s₂ s₃ : List ℕ} (enough : n + n ≤ part) (lent : part ≤ length s₀)
-    (kept : Kept (n + n) s₀ s₁) where
+module _ {t : Table} (part : ℕ) {s₀ s₁ s₂ s₃ : List ℕ} (enough : t.records + t.records ≤ part) (lent : part ≤ length s₀)
+    (kept : Kept (t.records + t.records) s₀ s₁) where
   -- the walk finished all wires, the registers were added, and the rest of the part was cleared
-  pub order_stands : {wires registers : ℕ} → AllFinished t n s₁ wires
-      → registers ≡ length (register_list (circuit t n))
-      → Filled wires registers (λ i. get_or (register_list (circuit t n)) i 0) s₁ s₂
+  pub order_stands : {wires registers : ℕ} → AllFinished t s₁ wires
+      → registers ≡ length (register_list (circuit_of t))
+      → Filled wires registers (λ i. get_or (register_list (circuit_of t)) i 0) s₁ s₂
       → Filled (wires + registers) (part - (wires + registers)) (λ _. 0) s₂ s₃
-      → IsOrder (circuit t n) part s₀ s₃ wires registers
+      → IsOrder (circuit_of t) part s₀ s₃ wires registers
   order_stands {wires} {registers} all count added cleared =
-      let list : List ℕ = register_list (circuit t n) in
+      let list : List ℕ = register_list (circuit_of t) in
       let order : List ℕ = take wires s₁ in
-      let few : wires ≤ n = all.few in
-      let room : wires + registers ≤ n = omega (arith, all.room) in
+      let few : wires ≤ t.records = all.few in
+      let room : wires + registers ≤ t.records = omega (arith, all.room) in
       let order_length : length order ≡ wires = length-take-le wires s₁ (omega (arith, kept.long)) in
       let size : length (order ++ list) ≡ wires + registers = omega (arith, length-append order list) in
       let front : (i : ℕ) → i < wires + registers → get_or s₃ i 0 ≡ get_or (order ++ list) i 0 = λ i l.
@@ -49,7 +50,7 @@ module _ {t : List ℕ} {n : ℕ} (part : ℕ) {s₀ s₁ s₂ s₃ : List ℕ} 
         ordered = all.ordered;
         order_length = order_length;
         registers_length = sym count;
-        fits = omega (arith, circuit_length t n);
+        fits = omega (arith, circuit_length t.bytes.now t.records);
         scratch =
             in_part part (wires + registers) (order ++ list) s₀ s₃ size (omega arith) lent
             (cleared.long ∙ added.long ∙ kept.long)
@@ -61,17 +62,17 @@ module _ {t : List ℕ} {n : ℕ} (part : ℕ) {s₀ s₁ s₂ s₃ : List ℕ} 
       }
 
   -- the stack closed a loop, the loop was shown, and the rest of the part was cleared
-  pub loop_stands : {top u size : ℕ} → StackCloses t n s₁ top u → Shown n top u s₁ s₂ size
-      → Filled size (part - size) (λ _. 0) s₂ s₃ → IsLoop (circuit t n) part s₀ s₃ size
+  pub loop_stands : {top u size : ℕ} → StackCloses t s₁ top u → Shown t.records top u s₁ s₂ size
+      → Filled size (part - size) (λ _. 0) s₂ s₃ → IsLoop (circuit_of t) part s₀ s₃ size
   loop_stands {top} {u} {size} stack shown cleared =
       let row : List ℕ = take size s₂ in
-      let few : size ≤ n = omega (arith, shown.size_is, shown.p_n) in
+      let few : size ≤ t.records = omega (arith, shown.size_is, shown.p_n) in
       let row_length : length row ≡ size = length-take-le size s₂ (omega (arith, kept.long, shown.kept.long)) in
       let is : (i : ℕ) → i < size → get_or row i 0 ≡ get_or s₂ i 0 = λ i l. get_or-take size s₂ i 0 l in
       record {
         row = row;
-        loop = shown_loop t n top u s₁ s₂ size stack shown row row_length is;
-        lowest = shown_lowest t n top u s₁ s₂ size stack shown row row_length is;
+        loop = shown_loop t top u s₁ s₂ size stack shown row row_length is;
+        lowest = shown_lowest t top u s₁ s₂ size stack shown row row_length is;
         row_length = row_length;
         scratch =
             in_part part size row s₀ s₃ row_length (omega arith) lent

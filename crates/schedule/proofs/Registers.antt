@@ -165,12 +165,12 @@ written_none c n len =
     record { front = []; size = refl; whole = rw e }
 
 module _ {c : Circuit} {n count : ℕ} where
-  pub written_all : Written c n count n → count ≡ length (register_list c)
+  pub written_all : {i : ℕ} → Written c n count i → n ≤ i → count ≡ length (register_list c)
   unfolding registers_from
-  written_all w =
-      let e : n - n ≡ 0 = omega arith in
-      let none : length (registers_from c (n - n) n) ≡ 0 = rw e in
-      omega (arith, w.size, length-append w.front (registers_from c (n - n) n), ap length w.whole)
+  written_all {i} w h =
+      let e : n - i ≡ 0 = omega arith in
+      let none : length (registers_from c (n - i) i) ≡ 0 = rw e in
+      omega (arith, w.size, length-append w.front (registers_from c (n - i) i), ap length w.whole)
 
   module _ {i : ℕ} (l : i < n) (w : Written c n count i) where
     left : n - i ≡ suc (n - (i + 1))

@@ -2,27 +2,23 @@
 -- Assumes nothing.
 use mathlib.Core.Path.{◌≡◌, refl, sym, ap, ◌∙◌}
 use mathlib.Core.Logic.{◌⊎◌, inl, inr, ⊎_elim}
-use mathlib.Core.List.{List}
-use Prim.Native.Nat.{ℕ, ◌+◌, ◌-◌, ◌≤◌, ◌<◌}
+use mathlib.Core.List.{List, ◌++◌}
+use Prim.Native.Nat.{ℕ, ◌+◌, ◌-◌, ◌≤◌, ◌<◌, zero-le}
 use native.Mathlib.Omega.{arith}
 use borrow.Author.Tests.{le-leb, lt-leb}
-use lib.ListN.{length, get_or}
+use lib.ListN.{length, get_or, take, drop, length-append, length-drop, get_or-append}
+use lib.Seq.{length-take-le, get_or-take, get_or-drop}
+use Rattle.std.proofs.lemmas.List.{get_or-append_right}
+use Rattle.std.specs.List.{CopiedTo, SameFrom, ReversedBelow, RotatedLeft}
 use Rattle.net.specs.Loop.{Loop, LowestFirst}
-use Rattle.circuit.specs.Circuit.{circuit, graph}
+use Rattle.circuit.specs.Circuit.{graph}
+use Rattle.circuit.specs.declared.table.Table.{Table}
+use Rattle.circuit.specs.Tables.{circuit_of}
 use Rattle.circuit.proofs.Tables.{circuit_length}
-use Rattle.buffer.specs.Kept.{Filled}
 use Rattle.schedule.specs.Shown.{rotation, Shown}
 use Rattle.schedule.specs.Walk.{StackCloses}
-use Rattle.net.proofs.Cases.{by_same, by_le}
+use Rattle.net.proofs.Cases.{by_le}
 use Rattle.schedule.proofs.Uses.{last_wire}
-use Rattle.buffer.proofs.Filled.{filled_kept, kept_trans}
-
--- the lowest so far, and one more
-pub lowest_more : (slot : ℕ → ℕ) (top i m m' : ℕ) → ((j : ℕ) → top ≤ j → j ≤ i → slot m ≤ slot j)
-    → slot m' ≤ slot m → slot m' ≤ slot (i + 1)
-    → (j : ℕ) → top ≤ j → j ≤ i + 1 → slot m' ≤ slot j
-lowest_more slot top i m m' h a b j l l' =
-    by_same j (i + 1) (λ q. omega (arith, ap slot q)) (λ q. omega (arith, h j l (omega arith)))
 
 -- ---- the places of the row
 
@@ -78,8 +74,8 @@ module _ (top p m : ℕ) (top_m : top ≤ m) (m_p : m ≤ p) where
 
 -- ---- the row is a loop
 
-module _ (t : List ℕ) (n top u : ℕ) (s exit : List ℕ) (size : ℕ) (stack : StackCloses t n s top u)
-    (shown : Shown n top u s exit size) (row : List ℕ) (row_length : length row ≡ size)
+module _ (t : Table) (top u : ℕ) (s exit : List ℕ) (size : ℕ) (stack : StackCloses t s top u)
+    (shown : Shown t.records top u s exit size) (row : List ℕ) (row_length : length row ≡ size)
     (is : (i : ℕ) → i < size → get_or row i 0 ≡ get_or exit i 0) where
   abbrev at : ℕ → ℕ
   at i = rotation top shown.p shown.m i
@@ -91,11 +87,11 @@ module _ (t : List ℕ) (n top u : ℕ) (s exit : List ℕ) (size : ℕ) (stack 
   number : (i : ℕ) → i < length row → get_or row i 0 ≡ get_or s (at i) 0
   number i l = is i (omega arith) ∙ shown.row i (omega arith)
 
-  pub shown_loop : Loop (graph (circuit t n)) row
+  pub shown_loop : Loop (graph (circuit_of t)) row
   shown_loop =
       let p = shown.p in
       let m = shown.m in
-      let high : p < n = shown.p_n in
+      let high : p < t.records = shown.p_n in
       let sized : length row ≡ p + 1 - top = row_length ∙ shown.size_is in
       let some : 0 < length row = omega (arith, shown.top_m, shown.m_p) in
       record {
@@ -103,7 +99,8 @@ module _ (t : List ℕ) (n top u : ℕ) (s exit : List ℕ) (size : ℕ) (stack 
         wires = λ i l.
             let b = bounds i l in
             let (below, wire) = stack.wires (at i) b.0 (omega arith) in
-            rw (number i l) (omega (arith, circuit_length t n), last_wire (circuit t n) (get_or s (at i) 0) wire);
+            rw (number i l)
+            (omega (arith, circuit_length t.bytes.now t.records), last_wire (circuit_of t) (get_or s (at i) 0) wire);
         distinct = λ i j l l' q.
             let b = bounds i l in
             let b' = bounds j l' in
@@ -136,14 +133,25 @@ module _ (t : List ℕ) (n top u : ℕ) (s exit : List ℕ) (size : ℕ) (stack 
       rw (number 0 (omega arith), rotation_first top shown.p shown.m shown.top_m shown.m_p, number i l)
       (shown.least (at i) b.0 b.1)
 
--- ---- what finding, rotating and copying gives
+-- ---- what finding, copying, reversing and rotating gives
 
-pub shown : (n top u p m : ℕ) (s₀ s₁ s₂ : List ℕ) → (top ≤ p) × (p < n) × (get_or s₀ p 0 ≡ u)
-    → (top ≤ m) × (m ≤ p) → ((i : ℕ) → top ≤ i → i ≤ p → get_or s₀ m 0 ≤ get_or s₀ i 0)
-    → Filled n (p + 1 - top) (λ i. get_or s₀ (rotation top p m i) 0) s₀ s₁
-    → Filled 0 (p + 1 - top) (λ i. get_or s₁ (n + i) 0) s₁ s₂
-    → Shown n top u s₀ s₂ (p + 1 - top)
-shown n top u p m s₀ s₁ s₂ found within least rotated copied =
+-- the loop was copied to the front, the copy was reversed, and then rotated until its lowest stood first
+pub shown : (n top u p m : ℕ) (s copied reversed row : List ℕ) → (top ≤ p) × (p < n) × (get_or s p 0 ≡ u)
+    → (top ≤ m) × (m ≤ p) → ((i : ℕ) → top ≤ i → i ≤ p → get_or s m 0 ≤ get_or s i 0) → n + n ≤ length s
+    → length copied ≡ length s → CopiedTo s copied top 0 (p + 1 - top) → SameFrom s copied (0 + (p + 1 - top))
+    → length reversed ≡ length (take (p + 1 - top) copied)
+    → ReversedBelow (take (p + 1 - top) copied) reversed (length (take (p + 1 - top) copied))
+    → length row ≡ length reversed → RotatedLeft reversed row (length reversed) (p - m)
+    → Shown n top u s (row ++ drop (p + 1 - top) copied) (p + 1 - top)
+shown n top u p m s copied reversed row found within least lent copied_length copy same reversed_length back
+    row_length turn =
+    let size : ℕ = p + 1 - top in
+    let taken : length (take size copied) ≡ size = length-take-le size copied (omega arith) in
+    let at_back : (i : ℕ) → i < size → get_or reversed i 0 ≡ get_or s (p - i) 0 = λ i l.
+    back i 0 (omega arith)
+    ∙ get_or-take size copied (length (take size copied) - 1 - i) 0 (omega arith)
+    ∙ copy (length (take size copied) - 1 - i) 0 zero-le (omega arith)
+    ∙ ap (λ (x : ℕ). get_or s x 0) (omega arith) in
     record {
       p = p;
       m = m;
@@ -154,9 +162,23 @@ shown n top u p m s₀ s₁ s₂ found within least rotated copied =
       least = least;
       size_is = refl;
       row = λ i l.
-          let e : 0 + i ≡ i = omega arith in
-          ap (λ (x : ℕ). get_or s₂ x 0) (sym e) ∙ copied.here i l ∙ rotated.here i l;
+          get_or-append row (drop size copied) 0 i (omega arith)
+          ∙ by_le (top + i) m
+          (λ h.
+          turn.0 i 0 (omega arith)
+          ∙ at_back (i + (p - m)) (omega arith)
+          ∙ ap (λ (x : ℕ). get_or s x 0) (omega (arith, rotation_down top p m i h)))
+          (λ h.
+          turn.1 i 0 (omega arith) (omega arith)
+          ∙ at_back (i + (p - m) - length reversed) (omega arith)
+          ∙ ap (λ (x : ℕ). get_or s x 0) (omega (arith, rotation_on top p m i h)));
       kept =
-          kept_trans (filled_kept (n + n) (omega arith) rotated)
-          (filled_kept (n + n) (omega arith) copied);
+          record {
+            long = omega (arith, length-append row (drop size copied), length-drop size copied);
+            beyond = λ i l.
+                get_or-append_right row (drop size copied) size i 0 (omega arith) (omega arith)
+                ∙ get_or-drop size copied (i - size) 0
+                ∙ ap (λ (x : ℕ). get_or copied x 0) (omega arith)
+                ∙ same i 0 (omega arith);
+          };
     }

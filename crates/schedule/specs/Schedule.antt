@@ -1,13 +1,14 @@
 -- What a schedule of a circuit is: an order of its wires with the registers behind them, or a loop; and how either
 -- stands in the lent scratch, of which a part is used.
 -- Assumes nothing.
-use Rattle.std.specs.Prelude.{◌≡◌, true, false, List, [], ◌∷◌, ◌++◌, ℕ, zero, suc, ◌+◌, ◌-◌, ◌≤◌, ◌<◌, length, get_or, drop, replicate}
+use Rattle.std.specs.Prelude.{◌≡◌, true, false, Result, Ok, Err, List, [], ◌∷◌, ◌++◌, ℕ, zero, suc, ◌+◌, ◌-◌, ◌≤◌, ◌<◌, length, get_or, drop, replicate}
 use Rattle.net.specs.Net.{wire}
 use Rattle.net.specs.Loop.{Uses, Loop, LowestFirst}
 use Rattle.circuit.specs.Record.{role, is_register}
 use Rattle.circuit.specs.Circuit.{Circuit, record_of, graph}
-use Rattle.schedule.specs.declared.Outcome.{Outcome}
-use Rattle.schedule.specs.declared.Outcome.TheVariants as outcome
+use Rattle.circuit.specs.declared.refusal.Ground.TheVariants as grounds
+use Rattle.circuit.specs.declared.refusal.Refusal.{Refusal}
+use Rattle.schedule.specs.declared.Order.{Order}
 
 -- the wires of a circuit, each once, each after the wires that it uses
 pub record Ordered (c : Circuit) (order : List ℕ) : Type 0 where
@@ -56,6 +57,6 @@ pub record IsLoop (c : Circuit) (part : ℕ) (entry exit : List ℕ) (size : ℕ
   pub scratch : exit ≡ row ++ (replicate (part - size) 0 ++ drop part entry)
 
 -- what stands in the scratch, by what is answered
-abbrev pub Scheduled : Circuit → ℕ → List ℕ → List ℕ → Outcome → Type 0
-Scheduled c part entry exit (outcome.Order wires registers) = IsOrder c part entry exit wires registers
-Scheduled c part entry exit (outcome.Loop size) = IsLoop c part entry exit size
+abbrev pub Scheduled : Circuit → ℕ → List ℕ → List ℕ → Result Order Refusal → Type 0
+Scheduled c part entry exit (Ok o) = IsOrder c part entry exit o.wires o.registers
+Scheduled c part entry exit (Err r) = (r.reason ≡ grounds.Loop) × IsLoop c part entry exit r.place

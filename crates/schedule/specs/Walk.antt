@@ -7,15 +7,12 @@ use Rattle.std.specs.Prelude.{◌≡◌, List, ℕ, zero, suc, ◌+◌, ◌≤�
 use Rattle.net.specs.Net.{sum_below}
 use Rattle.net.specs.Loop.{Uses}
 use Rattle.circuit.specs.Record.{uses, wire_uses}
-use Rattle.circuit.specs.Circuit.{Circuit, circuit, record_of, graph}
-use Rattle.circuit.specs.Checks.{Checked}
+use Rattle.circuit.specs.Circuit.{Circuit, record_of, graph}
+use Rattle.circuit.specs.declared.table.Table.{Table}
+use Rattle.circuit.specs.Tables.{circuit_of}
 use Rattle.schedule.specs.declared.walk.Walk.{Walk}
-use Rattle.schedule.specs.declared.walk.Step.{Step}
-use Rattle.schedule.specs.declared.walk.Step.TheVariants as step
 use Rattle.schedule.specs.declared.walk.NextUse.{NextUse}
 use Rattle.schedule.specs.declared.walk.NextUse.TheVariants as next_use
-use Rattle.schedule.specs.declared.walk.Visited.{Visited}
-use Rattle.schedule.specs.declared.walk.Visited.TheVariants as visited
 use Rattle.schedule.specs.Schedule.{Ordered, register_list}
 use Rattle.buffer.specs.Kept.{Kept}
 
@@ -75,78 +72,70 @@ abbrev pub state_of : ℕ → List ℕ → ℕ → ℕ
 state_of n s v = get_or s (n + v) 0
 
 -- the walk over a checked table is at w
-pub record Walking (t : List ℕ) (n : ℕ) (s : List ℕ) (w : Walk) : Type 0 where
-  pub table : Checked t n
-  pub lent : n + n ≤ length s
-  pub invariant : Invariant (circuit t n) n (slot_of s) (state_of n s) w.root w.finished w.top
+pub record Walking (t : Table) (s : List ℕ) (w : Walk) : Type 0 where
+  pub lent : t.records + t.records ≤ length s
+  pub invariant : Invariant (circuit_of t) t.records (slot_of s) (state_of t.records s) w.root w.finished w.top
 
 -- a step leads from one state of the walk to one that is nearer to its end
-pub record Progress (t : List ℕ) (n : ℕ) (entry : List ℕ) (w₀ : Walk) (exit : List ℕ) (w : Walk) : Type 0 where
-  pub walking : Walking t n exit w
-  pub more : w₀.root + sum_below (state_of n entry) n < w.root + sum_below (state_of n exit) n
-  pub kept : Kept (n + n) entry exit
+pub record Progress (t : Table) (entry : List ℕ) (w₀ : Walk) (exit : List ℕ) (w : Walk) : Type 0 where
+  pub walking : Walking t exit w
+  pub more : w₀.root + sum_below (state_of t.records entry) t.records
+      < w.root + sum_below (state_of t.records exit) t.records
+  pub kept : Kept (t.records + t.records) entry exit
 
 -- v is the top, and all its uses are done
-pub record IsNoneLeft (t : List ℕ) (n : ℕ) (s : List ℕ) (w : Walk) (v : ℕ) : Type 0 where
+pub record IsNoneLeft (t : Table) (s : List ℕ) (w : Walk) (v : ℕ) : Type 0 where
   pub is : v ≡ slot_of s w.top
-  pub below : v < n
-  pub full : state_of n s v ≡ last (circuit t n) v
+  pub below : v < t.records
+  pub full : state_of t.records s v ≡ last (circuit_of t) v
 
 -- v is the top, and its next use is finished or no wire
-pub record IsDone (t : List ℕ) (n : ℕ) (s : List ℕ) (w : Walk) (v : ℕ) : Type 0 where
+pub record IsDone (t : Table) (s : List ℕ) (w : Walk) (v : ℕ) : Type 0 where
   pub is : v ≡ slot_of s w.top
-  pub below : v < n
-  pub more : state_of n s v < last (circuit t n) v
-  pub done : (k : ℕ) → k + 1 ≡ state_of n s v → 0 < last (circuit t n) (used (circuit t n) v k)
-      → state_of n s (used (circuit t n) v k) ≡ finished_state
+  pub below : v < t.records
+  pub more : state_of t.records s v < last (circuit_of t) v
+  pub done : (k : ℕ) → k + 1 ≡ state_of t.records s v → 0 < last (circuit_of t) (used (circuit_of t) v k)
+      → state_of t.records s (used (circuit_of t) v k) ≡ finished_state
 
 -- u is the top's next use, a wire that is unvisited
-pub record IsUnvisited (t : List ℕ) (n : ℕ) (s : List ℕ) (w : Walk) (u : ℕ) : Type 0 where
-  pub below : u < n
-  pub wire : 0 < last (circuit t n) u
-  pub unvisited : state_of n s u ≡ 0
-  pub more : state_of n s (slot_of s w.top) < last (circuit t n) (slot_of s w.top)
-  pub uses : Uses (graph (circuit t n)) (slot_of s w.top) u
+pub record IsUnvisited (t : Table) (s : List ℕ) (w : Walk) (u : ℕ) : Type 0 where
+  pub below : u < t.records
+  pub wire : 0 < last (circuit_of t) u
+  pub unvisited : state_of t.records s u ≡ 0
+  pub more : state_of t.records s (slot_of s w.top) < last (circuit_of t) (slot_of s w.top)
+  pub uses : Uses (graph (circuit_of t)) (slot_of s w.top) u
 
 -- u is the top's next use, a wire that is on the stack
-pub record IsStacked (t : List ℕ) (n : ℕ) (s : List ℕ) (w : Walk) (u : ℕ) : Type 0 where
-  pub below : u < n
-  pub visited : 0 < state_of n s u
-  pub unfinished : state_of n s u < finished_state
-  pub uses : Uses (graph (circuit t n)) (slot_of s w.top) u
+pub record IsStacked (t : Table) (s : List ℕ) (w : Walk) (u : ℕ) : Type 0 where
+  pub below : u < t.records
+  pub visited : 0 < state_of t.records s u
+  pub unfinished : state_of t.records s u < finished_state
+  pub uses : Uses (graph (circuit_of t)) (slot_of s w.top) u
 
 -- what is found at the top, by what is answered
-abbrev pub IsNextUse : List ℕ → ℕ → List ℕ → Walk → NextUse → Type 0
-IsNextUse t n s w (next_use.NoneLeft v) = IsNoneLeft t n s w v
-IsNextUse t n s w (next_use.Done v) = IsDone t n s w v
-IsNextUse t n s w (next_use.Unvisited u) = IsUnvisited t n s w u
-IsNextUse t n s w (next_use.Stacked u) = IsStacked t n s w u
-
--- what a step at the top does, by what is answered
-abbrev pub TopVisited : List ℕ → ℕ → List ℕ → Walk → List ℕ → Step → Type 0
-TopVisited t n entry w₀ exit (step.On w) = Progress t n entry w₀ exit w
-TopVisited t n entry w₀ exit (step.Closes u) = (exit ≡ entry) × IsStacked t n entry w₀ u
+abbrev pub IsNextUse : Table → List ℕ → Walk → NextUse → Type 0
+IsNextUse t s w (next_use.NoneLeft v) = IsNoneLeft t s w v
+IsNextUse t s w (next_use.Done v) = IsDone t s w v
+IsNextUse t s w (next_use.Unvisited u) = IsUnvisited t s w u
+IsNextUse t s w (next_use.Stacked u) = IsStacked t s w u
 
 -- ---- how the walk ends
 
 -- every wire is finished; behind the wires there is room for the registers
-pub record AllFinished (t : List ℕ) (n : ℕ) (s : List ℕ) (finished : ℕ) : Type 0 where
-  pub few : finished ≤ n
-  pub ordered : Ordered (circuit t n) (take finished s)
-  pub room : finished + length (register_list (circuit t n)) ≤ n
+pub record AllFinished (t : Table) (s : List ℕ) (finished : ℕ) : Type 0 where
+  pub few : finished ≤ t.records
+  pub ordered : Ordered (circuit_of t) (take finished s)
+  pub room : finished + length (register_list (circuit_of t)) ≤ t.records
 
 -- the wire at a place of the stack uses the one that stands before it, and the top uses u, which is on the stack
-pub record StackCloses (t : List ℕ) (n : ℕ) (s : List ℕ) (top u : ℕ) : Type 0 where
+pub record StackCloses (t : Table) (s : List ℕ) (top u : ℕ) : Type 0 where
   pub place : ℕ
   pub low : top ≤ place
-  pub high : place < n
+  pub high : place < t.records
   pub here : slot_of s place ≡ u
-  pub wires : (i : ℕ) → top ≤ i → i < n → (slot_of s i < n) × (0 < last (circuit t n) (slot_of s i))
-  pub distinct : (i j : ℕ) → top ≤ i → i < n → top ≤ j → j < n → slot_of s i ≡ slot_of s j → i ≡ j
-  pub chain : (i : ℕ) → top ≤ i → i + 1 < n → Uses (graph (circuit t n)) (slot_of s (i + 1)) (slot_of s i)
-  pub close : Uses (graph (circuit t n)) (slot_of s top) u
-
--- how the walk ends, by what is answered
-abbrev pub IsVisited : List ℕ → ℕ → List ℕ → Visited → Type 0
-IsVisited t n s (visited.All finished) = AllFinished t n s finished
-IsVisited t n s (visited.Loop top u) = StackCloses t n s top u
+  pub wires : (i : ℕ) → top ≤ i → i < t.records
+      → (slot_of s i < t.records) × (0 < last (circuit_of t) (slot_of s i))
+  pub distinct : (i j : ℕ) → top ≤ i → i < t.records → top ≤ j → j < t.records
+      → slot_of s i ≡ slot_of s j → i ≡ j
+  pub chain : (i : ℕ) → top ≤ i → i + 1 < t.records → Uses (graph (circuit_of t)) (slot_of s (i + 1)) (slot_of s i)
+  pub close : Uses (graph (circuit_of t)) (slot_of s top) u

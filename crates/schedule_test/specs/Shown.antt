@@ -1,10 +1,10 @@
--- How much of the scratch an outcome of the schedule shows.
+-- How much of the scratch a schedule shows.
 -- Assumes nothing.
-use Rattle.std.specs.Prelude.{ℕ, ◌+◌}
-use Rattle.schedule.specs.declared.Outcome.{Outcome}
-use Rattle.schedule.specs.declared.Outcome.TheVariants.{Order, Loop}
+use Rattle.std.specs.Prelude.{ℕ, ◌+◌, Result, Ok, Err}
+use Rattle.circuit.specs.declared.refusal.Refusal.{Refusal}
+use Rattle.schedule.specs.declared.Order.{Order}
 
 -- an order with the registers behind it, or a loop
-abbrev pub shown : Outcome → ℕ
-shown (Order wires registers) = wires + registers
-shown (Loop size) = size
+abbrev pub shown : Result Order Refusal → ℕ
+shown (Ok o) = o.wires + o.registers
+shown (Err r) = r.place

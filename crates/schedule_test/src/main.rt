@@ -2,87 +2,44 @@
 // bytes, the number of its records.
 #![tactic(auto)]
 
-ghost use Rattle.std.specs.Prelude.{◌*◌, ◌<◌, ◌≤◌, length, take, IfOk};
-ghost use Rattle.std.specs.Io.KnownBytes.{Consumes, IsAtEnd};
+ghost use Rattle.std.specs.Prelude.{◌*◌, ◌≤◌, length};
 
-use crate::print::{print_outcome, print_refusal};
+use crate::print::{print_refusal, print_schedule};
 use circuit::checks::{check_length, check_records};
-use circuit::number::{u16_at, wide};
-use circuit::operator::power_table;
-use circuit::refusal::Check;
-use std::io;
+use circuit::table::Table;
+use circuit::width::PowerTable;
+use schedule::schedule;
 use std::io::Read;
 
 mod print;
 
-// What heads the next table: the number of its records; or the input's end.
-#[derive(Clone, Copy)]
-enum Header {
-    Records(u16),
-    End,
-}
-
-// Reads until the buffer is full or the input ends. How many bytes of the buffer were read.
-fn read_full<R: Read>(input: &mut R, buf: &mut [u8]) -> io::Result<usize>
-    ensures within { IfOk result (λ n. n ≤ length buf.new) }
-    ensures read { IfOk result (λ n. Consumes (R.remaining input.old) (R.remaining input.new) (take n buf.new)) }
-    ensures ended { IfOk result (λ n. n < length buf.new → IsAtEnd (R.remaining input.new)) }
-{
-    let mut done: usize = 0;
-    while done < buf.len() {
-        let got = input.read(&mut buf[done..])?;
-        if got == 0 {
-            return Ok(done);
-        }
-        done += got;
-    }
-    Ok(done)
-}
-
-// Passes over one record of the input.
-fn skip_record(input: &mut impl Read) {
-    let mut bytes = [0u8; 16];
-    let _ = read_full(input, &mut bytes);
-}
-
 // Passes over n records of the input.
 fn skip_records(input: &mut impl Read, n: usize) {
+    let mut bytes = [0u8; 16];
     for _ in 0..n {
-        skip_record(input);
+        let _ = input.read_exact(&mut bytes);
     }
 }
 
-// Reads what heads the next table. An input that cannot be read has ended.
-fn read_header(input: &mut impl Read) -> Header {
+// The number of the next table's records, which heads it. An input that cannot be read has ended.
+fn read_header(input: &mut impl Read) -> Option<u16> {
     let mut bytes = [0u8; 2];
-    let got = read_full(input, &mut bytes).unwrap_or(0);
-    if got < 2 {
-        return Header::End;
-    }
-    Header::Records(u16_at(&bytes, 0))
-}
-
-// Fills the table's bytes from the input. Whether the input has them all.
-fn read_table(input: &mut impl Read, t: &mut [u8]) -> bool {
-    match read_full(input, t) {
-        Ok(got) => got == t.len(),
-        Err(_) => false,
-    }
+    input.read_exact(&mut bytes).ok()?;
+    Some(u16::from_le_bytes(bytes))
 }
 
 // Checks and schedules the n records of a table, and prints its line.
 fn report(output: &impl Print, t: &[u8], n: usize)
     requires { (n ≤ 4096) × (n * 16 ≤ length t.now) }
 {
-    let powers = power_table();
-    let checked = check_records(t, n, &powers);
-    let Check::Passed = checked else {
-        print_refusal(output, checked);
+    let powers = PowerTable::new();
+    if let Err(refusal) = check_records(t, n, &powers) {
+        print_refusal(output, refusal);
         return;
-    };
+    }
     let mut scratch = [0u16; 8192];
-    let outcome = schedule::schedule(t, n, 2 * n, &mut scratch);
-    print_outcome(output, outcome, &scratch);
+    let scheduled = schedule(&Table::new(t, n), 2 * n, &mut scratch);
+    print_schedule(output, scheduled, &scratch);
 }
 
 // Reads the n records of a table and prints its line. Whether the input has them all.
@@ -90,7 +47,7 @@ fn read_and_report(input: &mut impl Read, output: &impl Print, n: usize) -> bool
     requires { n ≤ 4096 }
 {
     let mut t = [0u8; 65536];
-    let whole = read_table(input, &mut t[..n * 16]);
+    let whole = input.read_exact(&mut t[..n * 16]).is_ok();
     if whole {
         report(output, &t, n);
     }
@@ -99,17 +56,15 @@ fn read_and_report(input: &mut impl Read, output: &impl Print, n: usize) -> bool
 
 // One turn: reads one table and prints its line. Whether there was one.
 fn turn(input: &mut impl Read, output: &impl Print) -> bool {
-    let header = read_header(input);
-    let Header::Records(records) = header else {
+    let Some(records) = read_header(input) else {
         return false;
     };
-    let n = wide(records);
-    let checked = check_length(n * 16);
-    let Check::Passed = checked else {
+    let n = usize::from(records);
+    if let Err(refusal) = check_length(n * 16) {
         skip_records(input, n);
-        print_refusal(output, checked);
+        print_refusal(output, refusal);
         return true;
-    };
+    }
     read_and_report(input, output, n)
 }
 

@@ -8,11 +8,11 @@ use native.Mathlib.Omega.{arith}
 use borrow.Author.Tests.{eq-eqb, ne_eqb}
 use lib.ListN.{length, drop, length-append}
 use Rattle.circuit.specs.declared.refusal.Ground.{Ground}
-use Rattle.circuit.specs.declared.refusal.Check.TheVariants.{Passed}
+use Rattle.circuit.specs.Refusal.{passed}
 use Rattle.circuit.specs.Refusal.{ground_number}
 use Rattle.circuit.specs.Stimuli.{check_stimuli}
 use Rattle.circuit.proofs.Places.{Refusals, refusals_weaken, stimuli_refusals}
-use Rattle.call.specs.Call.{Lent, Left, Answer, accepted, refused, Call}
+use Rattle.call.specs.Call.{Lent, Left, Answer, refused, Call}
 use Rattle.call.specs.Call.{lent, left, output_of, size, circuit_of, checked, Promises}
 use Rattle.call.proofs.Parts.{table_checked, outputs_lent}
 use Rattle.call.proofs.Answers.{row_some, row_most, row_in_scratch, refusal_holds}
@@ -27,9 +27,8 @@ use Rattle.path.specs.Promise as traced
 use Rattle.path.proofs.Promise.{path_refusals, path_short, path_some}
 use Rattle.text.specs.Text.{refusal_line, row_line, refusal_text}
 use Rattle.text.specs.Prints.{ShowsRow, AnswerStands, PathStands, BillStands}
-use Rattle.text.specs.declared.Report.{Report}
-use Rattle.text.specs.declared.Report.TheVariants.{Bytes, Line}
-use Rattle.text.specs.Reports.{Tells, Within, written_bytes}
+use Rattle.std.specs.Prelude.{Result, Ok, Err}
+use Rattle.text.specs.Reports.{Within, written_bytes}
 
 module _ (g : Ground) (place : ℕ) (s : List ℕ) where
   pub loop_text : ground_number g ≡ 11 → refusal_text g place s ≡ refusal_line g place ++ row_line s place
@@ -51,11 +50,11 @@ module _ (call : Call) (l : Lent) (e : Left) (later : Refusals (λ g place. 12 �
       (call.later l) (λ g place late is. absurd (omega arith)) later)
 
   pub answer_stands : (each : ℕ) (a : Answer) → Promises call l e a
-      → (checked call l ≡ Passed → size l * each ≤ length (output_of e.outputs))
+      → (checked call l ≡ passed → size l * each ≤ length (output_of e.outputs))
       → AnswerStands each a (size l) (length (output_of e.outputs)) (length e.scratch)
-  answer_stands each (accepted k) p lent =
+  answer_stands each (Ok k) p lent =
       ((table_checked call l p.past.passed).small, lent p.past.passed)
-  answer_stands each (refused g place) p lent = row_stands g place p
+  answer_stands each (Err r) p lent = row_stands r.reason r.place p
 
 pub certified_stands : (t cells scratch cells' scratch' : List ℕ) → length cells' ≡ length cells → (a : Answer)
     → Promises certified.certifying (lent t cells scratch) (left cells' scratch') a
@@ -78,7 +77,7 @@ benched_stands s t values scratch values' scratch' long a p =
 pub traced_stands : (v : ℕ) (t row scratch row' scratch' : List ℕ) (a : Answer)
     → Promises (traced.tracing v) (lent t row scratch) (left row' scratch') a
     → PathStands a (length row') (length scratch')
-traced_stands v t row scratch row' scratch' (accepted k) p =
+traced_stands v t row scratch row' scratch' (Ok k) p =
     let found = p.accepts in (
       path_some p,
       omega (
@@ -89,17 +88,17 @@ traced_stands v t row scratch row' scratch' (accepted k) p =
       ),
       path_short p,
     )
-traced_stands v t row scratch row' scratch' (refused g place) p =
+traced_stands v t row scratch row' scratch' (Err r) p =
     let l = lent t row scratch in
     row_stands (traced.tracing v) l (left row' scratch')
     (refusals_weaken (λ g place. (ground_number g ≡ 23) × (place ≡ v)) (λ g place. 12 ≤ ground_number g)
-    (traced.check_marked (circuit_of l) v) (λ g place h. omega (arith, h.0)) (path_refusals v l)) g place p
+    (traced.check_marked (circuit_of l) v) (λ g place h. omega (arith, h.0)) (path_refusals v l)) r.reason r.place p
 
 pub billed_stands : (sizes shares shares' : List ℕ) → length shares' ≡ length shares → (a : Answer)
     → Bills sizes shares shares' a → BillStands a (length sizes) (length shares')
-billed_stands sizes shares shares' long (accepted k) p =
+billed_stands sizes shares shares' long (Ok k) p =
     let (few, room, _) = accepted_small p in (few, omega arith)
-billed_stands sizes shares shares' long (refused g place) p =
+billed_stands sizes shares shares' long (Err r) p =
     λ is. ⊎_elim (λ e. omega arith) (λ e. omega arith) (refused_small p).0
 
 -- what the trimming call writes stands in both of its outputs, and there are at most 4,096 records
@@ -108,28 +107,17 @@ pub trimmed_stands : (certificate kept t trimmed numbers scratch trimmed' number
     → Promises (trims.trimming certificate kept) (trims.lent t trimmed numbers scratch)
     (trims.left trimmed' numbers' scratch') a
     → (written_bytes a ≤ 65536) × (written_bytes a ≤ length trimmed') × (written_bytes a ≤ length numbers' * 16)
-trimmed_stands certificate kept t trimmed numbers scratch trimmed' numbers' scratch' long many (accepted k) p =
+trimmed_stands certificate kept t trimmed numbers scratch trimmed' numbers' scratch' long many (Ok k) p =
     let l = trims.lent t trimmed numbers scratch in
     let table = table_checked (trims.trimming certificate kept) l p.past.passed in
     let ready = trimmable t (size l) certificate kept (length trimmed) (length numbers) table p.later in
     let few = accepted_few certificate kept l p in
     (omega (arith, table.small), omega (arith, ready.trimmed_lent), omega (arith, ready.numbers_lent))
-trimmed_stands certificate kept t trimmed numbers scratch trimmed' numbers' scratch' long many (refused g place) p =
+trimmed_stands certificate kept t trimmed numbers scratch trimmed' numbers' scratch' long many (Err r) p =
     (omega arith, omega arith, omega arith)
 
 -- what is told stands in longer buffers too
-pub within_more : (r : Report) (output line longer room : ℕ) → output ≤ longer → line ≤ room → Within r output line
+pub within_more : (r : Result ℕ ℕ) (output line longer room : ℕ) → output ≤ longer → line ≤ room → Within r output line
     → Within r longer room
-within_more (Bytes count) output line longer room h h' within = omega arith
-within_more (Line r) output line longer room h h' within = omega arith
-
--- what is told of an output stands in the output
-pub told_within : (each : ℕ) (a : Answer) (r : Report) (n output scratch line room : ℕ) (out exit : List ℕ)
-    → line ≤ room → AnswerStands each a n output scratch → Tells a (n * each) out exit r → Within r (n * each) line
-    → Within r output room
-told_within each (accepted k) (Bytes count) n output scratch line room out exit h stands tells within =
-    omega (arith, stands.1, tells.0)
-told_within each (accepted k) (Line r) n output scratch line room out exit h stands tells within = absurd tells
-told_within each (refused g place) (Bytes count) n output scratch line room out exit h stands tells within =
-    absurd tells
-told_within each (refused g place) (Line r) n output scratch line room out exit h stands tells within = omega arith
+within_more (Ok count) output line longer room h h' within = omega arith
+within_more (Err r) output line longer room h h' within = omega arith

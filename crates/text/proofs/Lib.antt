@@ -4,3 +4,4 @@ pub mod Rows
 pub mod Answers
 pub mod Words
 pub mod Told
+pub mod Reading

@@ -1,34 +1,19 @@
 -- Pieces of text put one before the other are one text.
 -- Assumes nothing.
-use mathlib.Core.Path.{◌≡◌, refl, sym, ap, ap₂, ◌∙◌, subst}
-use mathlib.Core.List.{List, [], ◌∷◌, ◌++◌, append_assoc, append-nil}
-use Prim.Native.Nat.{ℕ, suc, ◌+◌, ◌-◌, ◌/◌, ◌%◌, ◌≤◌, ◌<◌}
+use mathlib.Core.Path.{◌≡◌, refl, sym, ap, ◌∙◌, subst}
+use mathlib.Core.List.{List, [], ◌∷◌, ◌++◌, append_assoc}
+use Prim.Native.Nat.{ℕ, ◌+◌, ◌/◌, ◌%◌, ◌≤◌, ◌<◌}
 use native.Mathlib.Omega.{arith}
-use lib.ListN.{length, set, get_or, take, drop, length-append, length-set, take-append-drop}
-use lib.Seq.{drop-length, drop-cons, drop-set-lt, get_or-set_same, take-set-le, take-take}
+use lib.ListN.{length, take, drop, length-append}
+use lib.Seq.{take-take}
+use Rattle.text.specs.declared.writer.Writer.{Writer}
 use Rattle.text.specs.Text.{decimal}
 use Rattle.text.specs.Pieces.{Put}
+use Rattle.text.specs.Writer.{Puts}
 use Rattle.text.proofs.Decimal.{decimal_one, decimal_more, decimal_some}
 
 pub put_none : (entry : List ℕ) (from : ℕ) → Put [] entry from entry from
 put_none entry from = record { start = omega arith; long = refl; stands = refl; kept = refl }
-
-pub put_one : (entry : List ℕ) (from b : ℕ) → 0 < from → from ≤ length entry
-    → Put (b ∷ []) entry from (set entry (from - 1) b) (from - 1)
-put_one entry from b some h =
-    record {
-      start = omega arith;
-      long = length-set entry (from - 1) b;
-      stands =
-          drop-cons (set entry (from - 1) b) (from - 1) 0 (omega (arith, length-set entry (from - 1) b))
-          ∙ ap₂ ◌∷◌ (get_or-set_same entry (from - 1) b 0 (omega arith))
-          (ap (λ (k : ℕ). drop k (set entry (from - 1) b)) next
-          ∙ drop-set-lt from entry (from - 1) b (omega arith));
-      kept = take-set-le (from - 1) entry (from - 1) b (omega arith);
-    }
-  where
-    next : suc (from - 1) ≡ from
-    next = omega arith
 
 pub put_then : {a b entry middle exit : List ℕ} {from p r : ℕ} → Put a entry from middle p → Put b middle p exit r
     → Put (b ++ a) entry from exit r
@@ -51,67 +36,44 @@ pub put_as : {a b entry exit : List ℕ} {from r : ℕ} → a ≡ b → Put a en
 put_as {entry = entry} {exit = exit} {from = from} {r = r} e x =
     subst (λ (text : List ℕ). Put text entry from exit r) e x
 
--- a text that ends where the buffer does
-pub put_whole : {text entry exit : List ℕ} {r : ℕ} → Put text entry (length entry) exit r
-    → exit ≡ take r entry ++ text
-put_whole {text} {entry} {exit} {r} x =
-    sym (take-append-drop r exit)
-    ∙ ap₂ ◌++◌ x.kept (x.stands ∙ ap (λ (l : List ℕ). text ++ l) (drop-length entry) ∙ append-nil text)
+-- ---- through a writer
 
--- a text that ends at a place that is the buffer's length
-pub put_to_end : {text entry exit : List ℕ} {from r : ℕ} → from ≡ length entry → Put text entry from exit r
-    → exit ≡ take r entry ++ text
-put_to_end {text} {entry} {exit} {r = r} e x =
-    put_whole (subst (λ (end : ℕ). Put text entry end exit r) e x)
+pub puts_none : (w : Writer) → Puts [] w w
+puts_none w = record { same_reference = refl; put = put_none w.out.now w.at }
 
--- one byte more
-pub put_before : {text entry middle exit : List ℕ} {b from p r : ℕ} → Put text entry from middle p
-    → Put (b ∷ []) middle p exit r → Put (b ∷ text) entry from exit r
-put_before x y = put_then x y
+pub puts_then : {a b : List ℕ} {x y z : Writer} → Puts a x y → Puts b y z → Puts (b ++ a) x z
+puts_then p q =
+    record { same_reference = q.same_reference ∙ p.same_reference; put = put_then p.put q.put }
 
--- a word, from its last byte on
-pub put_more : {entry middle exit : List ℕ} {from p r : ℕ} (word : List ℕ) (i : ℕ) → i < length word
-    → Put (drop (suc i) word) entry from middle p → Put (get_or word i 0 ∷ []) middle p exit r
-    → Put (drop i word) entry from exit r
-put_more word i h x y =
-    put_as (sym (drop-cons word i 0 h)) (put_before x y)
+-- the same text in other words
+pub puts_as : {a b : List ℕ} {x y : Writer} → a ≡ b → Puts a x y → Puts b x y
+puts_as e p = record { same_reference = p.same_reference; put = put_as e p.put }
 
 -- ---- a number in base ten, from its last digit on
 
 -- the digits before those that stand are those of the rest
-pub record PutDigits (n rest : ℕ) (entry : List ℕ) (from : ℕ) (out : List ℕ) (p : ℕ) : Type 0 where
+pub record PutsDigits (n rest : ℕ) (x y : Writer) : Type 0 where
   pub text : List ℕ
   pub split : decimal n ≡ decimal rest ++ text
-  pub put : Put text entry from out p
+  pub puts : Puts text x y
 
-pub no_digits : (n : ℕ) (entry : List ℕ) (from : ℕ) → PutDigits n n entry from entry from
-no_digits n entry from = record { text = []; split = sym (append-nil (decimal n)); put = put_none entry from }
-
-pub digits_room : {n rest from p : ℕ} {entry out : List ℕ} → PutDigits n rest entry from out p
-    → length (decimal n) ≤ from → 0 < p
+pub digits_room : {n rest : ℕ} {x y : Writer} → PutsDigits n rest x y → length (decimal n) ≤ x.at → 1 ≤ y.at
 digits_room {rest = rest} d h =
-    omega (
-      arith,
-      ap length d.split,
-      length-append (decimal rest) d.text,
-      d.put.start,
-      decimal_some rest,
-    )
+    omega (arith, ap length d.split, length-append (decimal rest) d.text, d.puts.put.start, decimal_some rest)
 
-pub one_digit : {n rest from p r : ℕ} {entry middle exit : List ℕ} → PutDigits n rest entry from middle p → 10 ≤ rest
-    → Put ((48 + rest % 10) ∷ []) middle p exit r → PutDigits n (rest / 10) entry from exit r
-one_digit {rest = rest} d h x =
+pub one_digit : {n rest : ℕ} {x y z : Writer} → PutsDigits n rest x y → 10 ≤ rest
+    → Puts ((48 + rest % 10) ∷ []) y z → PutsDigits n (rest / 10) x z
+one_digit {rest = rest} d h p =
     record {
       text = (48 + rest % 10) ∷ d.text;
       split =
           d.split
           ∙ ap (λ (l : List ℕ). l ++ d.text) (decimal_more rest h)
           ∙ append_assoc (decimal (rest / 10)) ((48 + rest % 10) ∷ []) d.text;
-      put = put_before d.put x;
+      puts = puts_then d.puts p;
     }
 
-pub last_digit : {n rest from p r : ℕ} {entry middle exit : List ℕ} → PutDigits n rest entry from middle p → rest < 10
-    → Put ((48 + rest) ∷ []) middle p exit r → Put (decimal n) entry from exit r
-last_digit {rest = rest} d h x =
-    put_as
-    (sym (d.split ∙ ap (λ (l : List ℕ). l ++ d.text) (decimal_one rest h))) (put_before d.put x)
+pub last_digit : {n rest : ℕ} {x y z : Writer} → PutsDigits n rest x y → rest < 10 → Puts ((48 + rest) ∷ []) y z
+    → Puts (decimal n) x z
+last_digit {rest = rest} d h p =
+    puts_as (sym (d.split ∙ ap (λ (l : List ℕ). l ++ d.text) (decimal_one rest h))) (puts_then d.puts p)

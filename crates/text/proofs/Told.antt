@@ -6,12 +6,13 @@ use mathlib.Core.List.{List, [], ◌∷◌, ◌++◌, append_assoc, append-nil}
 use Prim.Native.Nat.{ℕ, zero, suc, ◌+◌, ◌-◌, ◌≤◌, ◌<◌}
 use native.Mathlib.Omega.{arith}
 use lib.ListN.{length, get_or}
-use Rattle.net.specs.Tests.{every}
+use Rattle.std.specs.List.{list_all}
 use Rattle.net.proofs.Cases.{by_same}
 use Rattle.circuit.specs.declared.refusal.Ground.{Ground}
 use Rattle.circuit.specs.Refusal.{ground_number}
 use Rattle.circuit.proofs.Places.{ground_told}
 use Rattle.circuit.proofs.Stimuli.{both_true}
+use Rattle.std.specs.Prelude.{Ok, Err}
 use Rattle.call.specs.Call.{Answer, accepted, refused}
 use Rattle.text.specs.Text.{decimal, newline, is_refused, rounds, bill, refusal_line, pieces, spaced, row_line}
 use Rattle.text.specs.Text.{refusal_text, certified_text, benched_text, billed_text, path_text, answer_text}
@@ -23,9 +24,8 @@ use Rattle.text.proofs.Answers.{loop_text, other_text}
 -- ---- a number, up to what ends it
 
 -- digits, the first other byte behind them, and what stands behind that
-split : (d d' : ℕ) (xs ys r r' : List ℕ) → d < 48 → d' < 48 → every is_digit xs ≡ true → every is_digit ys ≡ true
+split : (d d' : ℕ) (xs ys r r' : List ℕ) → d < 48 → d' < 48 → list_all is_digit xs ≡ true → list_all is_digit ys ≡ true
     → xs ++ (d ∷ r) ≡ ys ++ (d' ∷ r') → (xs ≡ ys) × (d ≡ d') × (r ≡ r')
-unfolding every
 split d d' [] [] r r' low low' w w' e = (refl, cc, cc)
 split d d' [] (y ∷ ys) r r' low low' w w' e =
     let same : d ≡ y = cc in absurd (omega (arith, (digit_at (y ∷ ys) 0 w' (omega arith)).0))
@@ -35,8 +35,8 @@ split d d' (x ∷ xs) (y ∷ ys) r r' low low' w w' e =
     let same : x ≡ y = cc in
     let both : xs ++ (d ∷ r) ≡ ys ++ (d' ∷ r') = cc in
     let (digits, end, rest) =
-    split d d' xs ys r r' low low' (both_true (is_digit x) (every is_digit xs) w).1
-    (both_true (is_digit y) (every is_digit ys) w').1 both in
+    split d d' xs ys r r' low low' (both_true (is_digit x) (list_all is_digit xs) w).1
+    (both_true (is_digit y) (list_all is_digit ys) w').1 both in
     (ap₂ (λ (z : ℕ) (zs : List ℕ). z ∷ zs) same digits, end, rest)
 
 -- a number in base ten, ended by a byte that is no digit, that byte and what stands behind
@@ -52,7 +52,7 @@ decimal_told d d' m n r r' low low' e =
 number_apart : (n b : ℕ) (r r' : List ℕ) → 57 < b → decimal n ++ r ≡ b ∷ r' → ⊥
 number_apart n b r r' letter e = first (decimal n) (decimal_some n) (decimal_digits n) e
   where
-    first : (xs : List ℕ) → 1 ≤ length xs → every is_digit xs ≡ true → xs ++ r ≡ b ∷ r' → ⊥
+    first : (xs : List ℕ) → 1 ≤ length xs → list_all is_digit xs ≡ true → xs ++ r ≡ b ∷ r' → ⊥
     first [] some w same = omega arith
     first (x ∷ xs) some w same =
         let here : x ≡ b = cc in omega (arith, (digit_at (x ∷ xs) 0 w (omega arith)).1)
@@ -105,15 +105,15 @@ pub text_told : (shown shown' : ℕ → List ℕ) (a a' : Answer) (s s' : List �
     → ((k : ℕ) (g : Ground) (place : ℕ) (r : List ℕ) → shown k ≡ refusal_line g place ++ r → ⊥)
     → ((k : ℕ) (g : Ground) (place : ℕ) (r : List ℕ) → shown' k ≡ refusal_line g place ++ r → ⊥)
     → answer_text shown a s ≡ answer_text shown' a' s' → a ≡ a'
-text_told shown shown' (accepted k) (accepted k') s s' number apart apart' e = ap accepted (number k k' refl refl e)
-text_told shown shown' (accepted k) (refused h j) s s' number apart apart' e =
-    let (r, begins) = refusal_begins h j s' in absurd (apart k h j r (e ∙ begins))
-text_told shown shown' (refused g i) (accepted k) s s' number apart apart' e =
-    let (r, begins) = refusal_begins g i s in absurd (apart' k g i r (sym e ∙ begins))
-text_told shown shown' (refused g i) (refused h j) s s' number apart apart' e =
-    let (r, begins) = refusal_begins g i s in
-    let (r', begins') = refusal_begins h j s' in
-    refusal_told g h i j r r' (sym begins ∙ e ∙ begins')
+text_told shown shown' (Ok k) (Ok k') s s' number apart apart' e = ap accepted (number k k' refl refl e)
+text_told shown shown' (Ok k) (Err b) s s' number apart apart' e =
+    let (r, begins) = refusal_begins b.reason b.place s' in absurd (apart k b.reason b.place r (e ∙ begins))
+text_told shown shown' (Err a) (Ok k) s s' number apart apart' e =
+    let (r, begins) = refusal_begins a.reason a.place s in absurd (apart' k a.reason a.place r (sym e ∙ begins))
+text_told shown shown' (Err a) (Err b) s s' number apart apart' e =
+    let (r, begins) = refusal_begins a.reason a.place s in
+    let (r', begins') = refusal_begins b.reason b.place s' in
+    refusal_told a.reason b.reason a.place b.place r r' (sym begins ∙ e ∙ begins')
 
 rounds_apart : (cells : List ℕ) (n k : ℕ) (g : Ground) (place : ℕ) (r : List ℕ)
     → certified_text cells n k ≡ refusal_line g place ++ r → ⊥

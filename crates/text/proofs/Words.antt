@@ -1,20 +1,21 @@
 -- Words that are read as numbers: digit by digit, and that a number in base ten reads as itself.
 -- Assumes nothing.
 use mathlib.Core.Path.{◌≡◌, refl, sym, ap}
-use mathlib.Core.Bool.{Bool, true, false}
+use mathlib.Core.Bool.{true}
 use mathlib.Core.List.{List, [], ◌∷◌, ◌++◌}
 use Prim.Native.Nat.{ℕ, zero, suc, ◌+◌, ◌-◌, ◌*◌, ◌/◌, ◌%◌, ◌^◌, ◌≤◌, ◌<◌}
 use native.Mathlib.Nat.{not-suc-le-zero, le_of_suc-le-suc}
 use native.Mathlib.Decide.{dec_lt}
 use native.Mathlib.Numerals.{add-one}
 use native.Mathlib.Omega.{arith}
-use borrow.Author.Tests.{leb-true, le-leb, lt-ltb, le-ltb, ne_eqb}
+use borrow.Author.Tests.{leb-true, le-leb, lt-ltb, ne_eqb}
 use lib.Dec.{leb}
 use lib.ListN.{length, drop, get_or, drop_of_length-le}
 use lib.Seq.{drop-cons}
-use Rattle.net.specs.Tests.{every}
+use Rattle.std.specs.List.{list_all}
+use Rattle.std.proofs.lemmas.List.Folds.{list_all-append}
 use Rattle.circuit.proofs.Stimuli.{both_true}
-use Rattle.text.specs.declared.word.ReadNumber.TheVariants.{Number, TooWide}
+use Rattle.std.specs.Prelude.{Ok}
 use Rattle.text.specs.Text.{digits, decimal}
 use Rattle.text.specs.Words.{is_digit, value, fitted, read_number}
 use Rattle.text.proofs.Decimal.{digits_one, digits_more, decimal_some}
@@ -22,19 +23,6 @@ use Rattle.text.proofs.Decimal.{digits_one, digits_more, decimal_some}
 -- ---- digit by digit
 
 module _ (word : List ℕ) (i : ℕ) where
-  pub digit_passed : i < length word → is_digit (get_or word i 0) ≡ true
-      → every is_digit (drop i word) ≡ every is_digit (drop (i + 1) word)
-  unfolding every
-  digit_passed h e = rw (drop-cons word i 0 h, e) (ap (λ (k : ℕ). every is_digit (drop k word)) (sym (add-one i)))
-
-  pub digit_refused : i < length word → is_digit (get_or word i 0) ≡ false → every is_digit (drop i word) ≡ false
-  unfolding every
-  digit_refused h e = rw (drop-cons word i 0 h, e)
-
-  pub digits_passed : length word ≤ i → every is_digit (drop i word) ≡ true
-  unfolding every
-  digits_passed h = rw drop_of_length-le
-
   pub value_digit : (n : ℕ) → i < length word
       → value n (drop i word) ≡ value (n * 10 + (get_or word i 0 - 48)) (drop (i + 1) word)
   unfolding value
@@ -47,15 +35,14 @@ module _ (word : List ℕ) (i : ℕ) where
   value_whole n h = rw drop_of_length-le
 
 -- a digit of a word that has nothing else
-pub digit_at : (word : List ℕ) (i : ℕ) → every is_digit word ≡ true → i < length word
+pub digit_at : (word : List ℕ) (i : ℕ) → list_all is_digit word ≡ true → i < length word
     → (48 ≤ get_or word i 0) × (get_or word i 0 ≤ 57)
-unfolding every
 digit_at [] i e h = absurd (not-suc-le-zero h)
 digit_at (x ∷ xs) zero e h =
-    let (low, high) = both_true (leb 48 x) (leb x 57) (both_true (is_digit x) (every is_digit xs) e).0 in
+    let (low, high) = both_true (leb 48 x) (leb x 57) (both_true (is_digit x) (list_all is_digit xs) e).0 in
     (leb-true 48 x low, leb-true x 57 high)
 digit_at (x ∷ xs) (suc i) e h =
-    digit_at xs i (both_true (is_digit x) (every is_digit xs) e).1 (le_of_suc-le-suc h)
+    digit_at xs i (both_true (is_digit x) (list_all is_digit xs) e).1 (le_of_suc-le-suc h)
 
 -- digits that follow make a number no smaller
 pub value_grows : (n : ℕ) (xs : List ℕ) → n ≤ value n xs
@@ -63,10 +50,17 @@ unfolding value
 value_grows n [] = omega arith
 value_grows n (x ∷ xs) = omega (arith, value_grows (n * 10 + (x - 48)) xs)
 
-pub wide_told : (n : ℕ) → 2 ^ 32 ≤ n → fitted n ≡ TooWide
-wide_told n h = rw (fitted, le-ltb n (2 ^ 32) h)
+-- where the number fits, so does that of its first digits
+pub digits_fit : (word : List ℕ) (i n : ℕ) → i < length word → value 0 word ≡ value n (drop i word)
+    → value 0 word < 2 ^ 32 → n * 10 + (get_or word i 0 - 48) < 2 ^ 32
+digits_fit word i n h same small =
+    omega (
+      arith,
+      value_digit word i n h,
+      value_grows (n * 10 + (get_or word i 0 - 48)) (drop (i + 1) word),
+    )
 
-pub number_told : (n : ℕ) → n < 2 ^ 32 → fitted n ≡ Number n
+pub number_told : (n : ℕ) → n < 2 ^ 32 → fitted n ≡ Ok n
 number_told n h = rw (fitted, lt-ltb n (2 ^ 32) h)
 
 -- ---- a number in base ten
@@ -90,34 +84,30 @@ digits_value (suc fuel) n h =
 digit_is : (d : ℕ) → d < 10 → is_digit (48 + d) ≡ true
 digit_is d h = rw (le-leb 48 (48 + d) (omega arith), le-leb (48 + d) 57 (omega arith))
 
-every_append : (p : ℕ → Bool) (xs ys : List ℕ) → every p xs ≡ true → every p ys ≡ true → every p (xs ++ ys) ≡ true
-unfolding every
-every_append p [] ys e d = d
-every_append p (x ∷ xs) ys e d =
-    let (here, rest) = both_true (p x) (every p xs) e in
-    rw here (every_append p xs ys rest d)
-
-digits_alone : (fuel n : ℕ) → every is_digit (digits fuel n) ≡ true
-unfolding every digits
+digits_alone : (fuel n : ℕ) → list_all is_digit (digits fuel n) ≡ true
+unfolding digits
 digits_alone zero n = refl
 digits_alone (suc fuel) n =
     elim (dec_lt n 10) [
       | yes l ↦ rw (digits_one fuel n l) (last n l)
       | no l ↦
-          rw (digits_more fuel n (omega arith))
-          (every_append is_digit (digits fuel (n / 10)) ((48 + n % 10) ∷ []) (digits_alone fuel (n / 10))
-          (last (n % 10) (omega arith)))
+          rw (
+            digits_more fuel n (omega arith),
+            list_all-append is_digit (digits fuel (n / 10)) ((48 + n % 10) ∷ []),
+            digits_alone fuel (n / 10),
+            last (n % 10) (omega arith),
+          )
     ]
   where
-    last : (d : ℕ) → d < 10 → every is_digit ((48 + d) ∷ []) ≡ true
+    last : (d : ℕ) → d < 10 → list_all is_digit ((48 + d) ∷ []) ≡ true
     last d h = rw (digit_is d h)
 
-pub decimal_digits : (n : ℕ) → every is_digit (decimal n) ≡ true
+pub decimal_digits : (n : ℕ) → list_all is_digit (decimal n) ≡ true
 unfolding decimal
 decimal_digits n = digits_alone (suc n) n
 
 -- what is printed of a number reads as that number
-pub decimal_read : (n : ℕ) → n < 2 ^ 32 → read_number (decimal n) ≡ Number n
+pub decimal_read : (n : ℕ) → n < 2 ^ 32 → read_number (decimal n) ≡ Ok n
 unfolding decimal
 decimal_read n h =
     rw (

@@ -1,9 +1,9 @@
 -- The promise of a call with its text: the call's own promise, and the text of its answer.
 -- Assumes nothing.
-use Rattle.std.specs.Prelude.{◌≡◌, List, ◌++◌, ℕ, ◌*◌, ◌≤◌, take}
+use Rattle.std.specs.Prelude.{◌≡◌, Ok, Err, List, ◌++◌, ℕ, ◌*◌, ◌≤◌, take}
 use Rattle.circuit.specs.declared.refusal.Ground.{Ground}
 use Rattle.circuit.specs.Refusal.{ground_number}
-use Rattle.call.specs.Call.{Lent, Left, Answer, accepted, refused, Call, output_of, size, Promises}
+use Rattle.call.specs.Call.{Lent, Left, Answer, Call, output_of, size, Promises}
 use Rattle.bill.specs.Order.{most_sizes}
 use Rattle.text.specs.Text.{answer_text}
 
@@ -17,18 +17,18 @@ ShowsRow g place scratch = ground_number g ≡ 11 → RowStands place scratch
 
 -- what an answer shows stands in buffers of these lengths: `each` of the output a record where it is accepted
 abbrev pub AnswerStands : ℕ → Answer → ℕ → ℕ → ℕ → Type 0
-AnswerStands each (accepted k) n output scratch = (n ≤ 4096) × (n * each ≤ output)
-AnswerStands each (refused g place) n output scratch = ShowsRow g place scratch
+AnswerStands each (Ok k) n output scratch = (n ≤ 4096) × (n * each ≤ output)
+AnswerStands each (Err r) n output scratch = ShowsRow r.reason r.place scratch
 
 -- what the path call's answer shows stands in buffers of these lengths: the path in the row
 abbrev pub PathStands : Answer → ℕ → ℕ → Type 0
-PathStands (accepted k) row scratch = RowStands k row
-PathStands (refused g place) row scratch = ShowsRow g place scratch
+PathStands (Ok k) row scratch = RowStands k row
+PathStands (Err r) row scratch = ShowsRow r.reason r.place scratch
 
 -- what an order's answer shows stands in a buffer of so many shares: one a size; a refusal shows no row
 abbrev pub BillStands : Answer → ℕ → ℕ → Type 0
-BillStands (accepted k) n shares = (n ≤ most_sizes) × (n ≤ shares)
-BillStands (refused g place) n shares = ground_number g ≡ 11 → ⊥
+BillStands (Ok k) n shares = (n ≤ most_sizes) × (n ≤ shares)
+BillStands (Err r) n shares = ground_number r.reason ≡ 11 → ⊥
 
 -- the text of an answer of which something is promised fills `out` from r on; what lies before is as it was
 pub record TextOf (Promised : Answer → Type 0) (printed : Answer → List ℕ) (out out-exit : List ℕ)

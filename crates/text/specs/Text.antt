@@ -1,13 +1,13 @@
 -- What the programs print: numbers in base ten, the lines of a refusal, of a certificate, of values, of a bill, of old
 -- numbers and of a path. A text is the list of its bytes, in ASCII; each word below has its characters beside it.
 -- Assumes nothing.
-use Rattle.std.specs.Prelude.{true, false, List, [], ◌∷◌, ◌++◌, ℕ, zero, suc, ◌+◌, ◌-◌, ◌/◌, ◌%◌, eqb, ltb, get_or}
+use Rattle.std.specs.Prelude.{true, false, Ok, Err, List, [], ◌∷◌, ◌++◌, ℕ, zero, suc, ◌+◌, ◌-◌, ◌/◌, ◌%◌, eqb, ltb, get_or}
 use Rattle.circuit.specs.declared.refusal.Ground.{Ground}
 use Rattle.circuit.specs.Refusal.{ground_number}
 use Rattle.fact.specs.declared.Fact.{Fact}
 use Rattle.fact.specs.declared.Fact.TheVariants.{Always, Open, Marked}
 use Rattle.fact.specs.Fact.{fact_at}
-use Rattle.call.specs.Call.{Answer, accepted, refused}
+use Rattle.call.specs.Call.{Answer}
 
 -- the digits of n in base ten, the most significant first; `fuel` is enough where it is more than n
 unfoldable pub digits : ℕ → ℕ → List ℕ
@@ -132,5 +132,5 @@ path_text row n k = row_line row k
 
 -- all that is printed of an answer: what an accepted one shows by the number that it carries, or a refusal
 abbrev pub answer_text : (ℕ → List ℕ) → Answer → List ℕ → List ℕ
-answer_text shown (accepted k) s = shown k
-answer_text shown (refused g place) s = refusal_text g place s
+answer_text shown (Ok k) s = shown k
+answer_text shown (Err r) s = refusal_text r.reason r.place s

@@ -10,142 +10,128 @@ ghost use Rattle.machine.specs.Promise as benched;
 ghost use Rattle.bill.specs.Promise as billed;
 ghost use Rattle.trim.specs.Promise as trims;
 ghost use Rattle.path.specs.Promise as traced;
-ghost use Rattle.text.specs.Text.{refusal_text, certified_text, benched_text, billed_text, path_text, answer_text};
+ghost use Rattle.text.specs.Text.{refusal_line, certified_text, benched_text, billed_text, path_text, answer_text};
 ghost use Rattle.text.specs.Text.{row_line, number_lines};
 ghost use Rattle.text.specs.Pieces.{Put};
-ghost use Rattle.text.specs.Prints.{ShowsRow, AnswerStands, PathStands, BillStands, TextOf, PromisesInText};
-ghost use Rattle.text.specs.Reports.{TellsRefusal, Tells, Within, BytesOf, PromisesInBytes, written_bytes};
+ghost use Rattle.text.specs.Writer.{Puts};
+ghost use Rattle.text.specs.Prints.{AnswerStands, PathStands, BillStands, TextOf, PromisesInText};
+ghost use Rattle.text.specs.Reports.{Tells, Within, BytesOf, PromisesInBytes, written_bytes};
 
-use crate::lines::{put_facts, put_number_line, put_numbers, put_refusal, put_row, put_values};
-use bill::{Billed, bill};
-use certificate::{Certified, certify};
-use circuit::refusal::{Ground, ground_number};
-use machine::{Benched, bench};
-use path::{Traced, path};
-use trim::{Trimmed, trim};
+use crate::writer::Writer;
+use bill::bill;
+use certificate::certify;
+use circuit::refusal::Refusal;
+use machine::bench;
+use path::path;
+use trim::trim;
 
-mod lines;
-mod put;
 pub mod word;
-
-// What is told to a program that reads a call's own bytes: how many they are, or where a refusal's line begins.
-#[derive(Clone, Copy)]
-pub enum Report {
-    Bytes(usize),
-    Line(usize),
-}
-
-// A refusal's line and, for ground 11, the line of the loop that the scratch shows.
-fn put_refused(out: &mut [u8], reason: Ground, place: usize, scratch: &[u16]) -> usize
-    requires { (131072 ≤ length out.old) × ShowsRow reason place (length scratch.now) }
-    ensures { Put (refusal_text reason place scratch.now)
-        out.old (length out.old) out.new result }
-{
-    let end = out.len();
-    if ground_number(reason) == 11 {
-        let p = put_row(out, end, scratch, place);
-        return put_refusal(out, p, reason, place);
-    }
-    put_refusal(out, end, reason, place)
-}
+mod writer;
 
 // The certifying call's answer, on a table of n records.
 fn put_certified(
-    out: &mut [u8],
-    answer: Certified,
+    writer: &mut Writer<'_>,
+    answer: Result<u32, Refusal>,
     n: usize,
     certificate: &[u8],
     scratch: &[u16],
-) -> usize
-    requires in_bounds { 131072 ≤ length out.old }
-    requires answer_stands { AnswerStands certified.each (certified.answer_of answer) n (length certificate.now)
+)
+    requires in_bounds { 131072 ≤ writer.old.at }
+    requires answer_stands { AnswerStands certified.each answer n (length certificate.now)
         (length scratch.now) }
-    ensures { Put (answer_text (certified_text certificate.now n) (certified.answer_of answer)
-        scratch.now) out.old (length out.old) out.new result }
+    ensures { Puts (answer_text (certified_text certificate.now n) answer
+        scratch.now) writer.old writer.new }
 {
     match answer {
-        Certified::Accepted(rounds) => {
-            let p = put_facts(out, out.len(), certificate, n);
-            put_number_line(out, p, b"rounds ", rounds)
+        Ok(rounds) => {
+            writer.put_facts(certificate, n);
+            writer.put_number_line(b"rounds ", rounds);
         }
-        Certified::Refused(reason, place) => put_refused(out, reason, place, scratch),
+        Err(refusal) => writer.put_refused(refusal, scratch),
     }
 }
 
-// What is told of a refusal.
-fn report_refusal(line: &mut [u8], reason: Ground, place: usize) -> Report
+// Where the line of a refusal begins.
+fn put_line(line: &mut [u8], refusal: Refusal) -> usize
     requires { 53 ≤ length line.old }
-    ensures tells_refusal { TellsRefusal reason place line.old line.new result }
-    ensures within { Within result 0 (length line.old) }
+    ensures { Put (refusal_line refusal.reason refusal.place) line.old (length line.old) line.new result }
 {
-    Report::Line(put_refusal(line, line.len(), reason, place))
+    let mut writer = Writer::new(line);
+    writer.put_refusal(refusal);
+    writer.start()
 }
 
 // What is told of the certifying call's answer where the certificate has so many bytes.
-fn put_report(line: &mut [u8], answer: Certified, bytes: usize) -> Report
+fn put_report(line: &mut [u8], answer: Result<u32, Refusal>, bytes: usize) -> Result<usize, usize>
     requires { 53 ≤ length line.old }
-    ensures tells { Tells (certified.answer_of answer) bytes line.old line.new result }
+    ensures tells { Tells answer bytes line.old line.new result }
     ensures within { Within result bytes (length line.old) }
 {
     match answer {
-        Certified::Accepted(_) => Report::Bytes(bytes),
-        Certified::Refused(reason, place) => report_refusal(line, reason, place),
+        Ok(_) => Ok(bytes),
+        Err(refusal) => Err(put_line(line, refusal)),
     }
 }
 
 // What is told of the trimming call's answer: 16 bytes for each record written.
-fn put_trimmed(line: &mut [u8], answer: Trimmed) -> Report
+fn put_trimmed(line: &mut [u8], answer: Result<usize, Refusal>) -> Result<usize, usize>
     requires in_bounds { 53 ≤ length line.old }
-    requires answer_bound { written_bytes (trims.answer_of answer) ≤ 65536 }
-    ensures tells { Tells (trims.answer_of answer) (written_bytes (trims.answer_of answer))
+    requires answer_bound { written_bytes answer ≤ 65536 }
+    ensures tells { Tells answer (written_bytes answer)
         line.old line.new result }
-    ensures within { Within result (written_bytes (trims.answer_of answer)) (length line.old) }
+    ensures within { Within result (written_bytes answer) (length line.old) }
 {
     match answer {
-        Trimmed::Accepted(records) => Report::Bytes(records * 16),
-        Trimmed::Refused(reason, place) => report_refusal(line, reason, place),
+        Ok(records) => Ok(records * 16),
+        Err(refusal) => Err(put_line(line, refusal)),
     }
 }
 
 // The bench call's answer, on a table of n records.
-fn put_benched(out: &mut [u8], answer: Benched, n: usize, values: &[u32], scratch: &[u16]) -> usize
-    requires in_bounds { 131072 ≤ length out.old }
+fn put_benched(
+    writer: &mut Writer<'_>,
+    answer: Result<(), Refusal>,
+    n: usize,
+    values: &[u32],
+    scratch: &[u16],
+)
+    requires in_bounds { 131072 ≤ writer.old.at }
     requires answer_stands { AnswerStands benched.each (benched.answer_of answer) n (length values.now) (length scratch.now) }
-    ensures { Put (answer_text (benched_text values.now n) (benched.answer_of answer)
-        scratch.now) out.old (length out.old) out.new result }
+    ensures { Puts (answer_text (benched_text values.now n) (benched.answer_of answer)
+        scratch.now) writer.old writer.new }
 {
     match answer {
-        Benched::Accepted => put_values(out, out.len(), values, n),
-        Benched::Refused(reason, place) => put_refused(out, reason, place, scratch),
+        Ok(()) => writer.put_values(values, n),
+        Err(refusal) => writer.put_refused(refusal, scratch),
     }
 }
 
 // The path call's answer.
-fn put_path(out: &mut [u8], answer: Traced, row: &[u16], scratch: &[u16]) -> usize
-    requires in_bounds { 131072 ≤ length out.old }
-    requires path_stands { PathStands (traced.answer_of answer) (length row.now) (length scratch.now) }
-    ensures { Put (answer_text (row_line row.now) (traced.answer_of answer) scratch.now)
-        out.old (length out.old) out.new result }
+fn put_path(writer: &mut Writer<'_>, answer: Result<usize, Refusal>, row: &[u16], scratch: &[u16])
+    requires in_bounds { 131072 ≤ writer.old.at }
+    requires path_stands { PathStands answer (length row.now) (length scratch.now) }
+    ensures { Puts (answer_text (row_line row.now) answer scratch.now)
+        writer.old writer.new }
 {
     match answer {
-        Traced::Accepted(size) => put_row(out, out.len(), row, size),
-        Traced::Refused(reason, place) => put_refused(out, reason, place, scratch),
+        Ok(size) => writer.put_row(row, size),
+        Err(refusal) => writer.put_refused(refusal, scratch),
     }
 }
 
 // The answer to an order of n sizes.
-fn put_billed(out: &mut [u8], answer: Billed, n: usize, shares: &[u32]) -> usize
-    requires in_bounds { 2048 ≤ length out.old }
-    requires bill_stands { BillStands (billed.answer_of answer) n (length shares.now) }
-    ensures { Put (answer_text (billed_text shares.now n) (billed.answer_of answer) [])
-        out.old (length out.old) out.new result }
+fn put_billed(writer: &mut Writer<'_>, answer: Result<u32, Refusal>, n: usize, shares: &[u32])
+    requires in_bounds { 2048 ≤ writer.old.at }
+    requires bill_stands { BillStands answer n (length shares.now) }
+    ensures { Puts (answer_text (billed_text shares.now n) answer [])
+        writer.old writer.new }
 {
     match answer {
-        Billed::Accepted(cents) => {
-            let p = put_values(out, out.len(), shares, n);
-            put_number_line(out, p, b"bill ", cents)
+        Ok(cents) => {
+            writer.put_values(shares, n);
+            writer.put_number_line(b"bill ", cents);
         }
-        Billed::Refused(reason, place) => put_refusal(out, out.len(), reason, place),
+        Err(refusal) => writer.put_refusal(refusal),
     }
 }
 
@@ -163,7 +149,9 @@ pub fn certify_text(
     ensures upper_bound { (result ≤ 131072) × (131072 ≤ length out.new) }
 {
     let answer = certify(table, certificate, scratch);
-    put_certified(out, answer, table.len() / 16, certificate, scratch)
+    let mut writer = Writer::new(out);
+    put_certified(&mut writer, answer, table.len() / 16, certificate, scratch);
+    writer.start()
 }
 
 // Certifies a table for a program that reads the certificate's own bytes. A refusal's line stands in `line` from the
@@ -173,7 +161,7 @@ pub fn certify_bytes(
     certificate: &mut [u8],
     scratch: &mut [u16],
     line: &mut [u8; 64],
-) -> Report
+) -> Result<usize, usize>
     ensures promises_in_bytes { PromisesInBytes certified.certifying certified.each
         (lent table.now certificate.old scratch.old)
         (left certificate.new scratch.new)
@@ -200,7 +188,9 @@ pub fn bench_text(
     ensures upper_bound { (result ≤ 131072) × (131072 ≤ length out.new) }
 {
     let answer = bench(table, stimuli, values, scratch);
-    put_benched(out, answer, table.len() / 16, values, scratch)
+    let mut writer = Writer::new(out);
+    put_benched(&mut writer, answer, table.len() / 16, values, scratch);
+    writer.start()
 }
 
 // Finds a variable's path and makes the text of the answer. It stands in `out` from the place answered up to the end.
@@ -218,7 +208,9 @@ pub fn path_text(
     ensures upper_bound { (result ≤ 131072) × (131072 ≤ length out.new) }
 {
     let answer = path(table, variable, row, scratch);
-    put_path(out, answer, row, scratch)
+    let mut writer = Writer::new(out);
+    put_path(&mut writer, answer, row, scratch);
+    writer.start()
 }
 
 // Bills an order of these sizes and makes the text of the answer. It stands in `out` from the place answered up to the
@@ -231,7 +223,9 @@ pub fn bill_text(sizes: &[u32], shares: &mut [u32], out: &mut [u8; 2048]) -> usi
     ensures upper_bound { (result ≤ 2048) × (2048 ≤ length out.new) }
 {
     let answer = bill(sizes, shares);
-    put_billed(out, answer, sizes.len(), shares)
+    let mut writer = Writer::new(out);
+    put_billed(&mut writer, answer, sizes.len(), shares);
+    writer.start()
 }
 
 // Trims a table for a program that reads the trimmed table's own bytes. A refusal's line stands in `line` from the
@@ -244,7 +238,7 @@ pub fn trim_bytes(
     numbers: &mut [u16],
     scratch: &mut [u16],
     line: &mut [u8; 64],
-) -> Report
+) -> Result<usize, usize>
     ensures bytes_of { BytesOf
         (Promises (trims.trimming certificate.now kept.now)
         (trims.lent table.now trimmed.old numbers.old scratch.old)
@@ -263,5 +257,7 @@ pub fn numbers_text(numbers: &[u16], n: usize, out: &mut [u8; 32768]) -> usize
     ensures out_after { out.new ≡ take result out.old ++ number_lines numbers.now n }
     ensures upper_bound { (result ≤ 32768) × (32768 ≤ length out.new) }
 {
-    put_numbers(out, 32768, numbers, n)
+    let mut writer = Writer::new(out);
+    writer.put_numbers(numbers, n);
+    writer.start()
 }

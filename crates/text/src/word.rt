@@ -1,67 +1,38 @@
 // A number in base ten, read from a word.
-ghost use Rattle.std.specs.Prelude.{◌≡◌, true};
-ghost use Rattle.net.specs.Tests.{every};
-ghost use Rattle.text.specs.Words.{is_digit, value, fitted, read_number};
+ghost use Rattle.std.specs.Prelude.{◌≡◌, ◌<◌, ◌^◌, true, SomeIff};
+ghost use Rattle.std.specs.List.{list_all};
+ghost use Rattle.text.specs.Words.{is_digit, value, read_number};
 
-// A number of at most 32 bits; or the word is no number, or one that needs more.
-#[derive(Clone, Copy)]
-pub enum ReadNumber {
-    Number(u32),
+// A word is no number, or one that needs more than 32 bits.
+#[derive(Clone, Copy, Debug, PartialEq, Eq)]
+pub enum NumberError {
     NoNumber,
     TooWide,
 }
 
-fn is_digit(b: u8) -> bool
-    ensures { result ≡ is_digit b }
-{
-    if b < 48 {
-        return false;
-    }
-    if 57 < b {
-        return false;
-    }
-    true
-}
-
 fn all_digits(word: &[u8]) -> bool
-    ensures { result ≡ every is_digit word.now }
+    ensures { result ≡ list_all is_digit word.now }
 {
-    let mut i: usize = 0;
-    while i < word.len() {
-        if !is_digit(word[i]) {
-            return false;
-        }
-        i += 1;
-    }
-    true
+    word.iter().all(u8::is_ascii_digit)
 }
 
-// The number that a row of digits stands for.
-fn read_digits(word: &[u8]) -> ReadNumber
-    requires { every is_digit word.now ≡ true }
-    ensures { result ≡ fitted (value 0 word.now) }
+// The number that a row of digits stands for, where it needs at most 32 bits.
+fn read_digits(word: &[u8]) -> Option<u32>
+    requires { list_all is_digit word.now ≡ true }
+    ensures { SomeIff result (value 0 word.now < 2 ^ 32) (value 0 word.now) }
 {
-    let mut n: u64 = 0;
-    let mut i: usize = 0;
-    while i < word.len() {
-        let digit = word[i] - 48;
-        n = n * 10 + digit as u64;
-        if 4294967295 < n {
-            return ReadNumber::TooWide;
-        }
-        i += 1;
+    let mut n: u32 = 0;
+    for digit in word {
+        n = n.checked_mul(10)?.checked_add(u32::from(digit - b'0'))?;
     }
-    ReadNumber::Number(n as u32)
+    Some(n)
 }
 
-pub fn read_number(word: &[u8]) -> ReadNumber
+pub fn read_number(word: &[u8]) -> Result<u32, NumberError>
     ensures { result ≡ read_number word.now }
 {
-    if word.len() == 0 {
-        return ReadNumber::NoNumber;
+    if word.is_empty() || !all_digits(word) {
+        return Err(NumberError::NoNumber);
     }
-    if !all_digits(word) {
-        return ReadNumber::NoNumber;
-    }
-    read_digits(word)
+    read_digits(word).ok_or(NumberError::TooWide)
 }

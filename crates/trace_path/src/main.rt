@@ -1,10 +1,10 @@
 // Shows how a secret reaches a marked variable: trace_path TABLE VARIABLE. Prints the shortest row of marked variables
 // from it to a secret input, or why the table or the variable is refused. Only reading and writing is done here; the
 // answer and its text come from the proved library `text`.
+// What the programs have alike stands in each: a library may not name std's files, arguments and errors (.ci/run).
 #![tactic(auto)]
 
-ghost use Rattle.trace_path.specs.Contents.{Within};
-ghost use Rattle.std.specs.Prelude.{◌<◌, ◌≤◌, length, take, IfOk};
+ghost use Rattle.std.specs.Prelude.{◌<◌, ◌≤◌, length, take, IfOk, IfSome};
 ghost use Rattle.std.specs.Io.KnownBytes.{Consumes, IsAtEnd};
 
 use std::env::{Env, FillError};
@@ -13,24 +13,12 @@ use std::io;
 use std::io::{Error, ErrorKind, Read, Write};
 use std::rt::Files;
 use text::path_text;
-use text::word::{ReadNumber, read_number};
-
-// What was read of the table: so many bytes of it; or nothing, since it cannot be read, which was said.
-#[derive(Clone, Copy)]
-enum Contents {
-    Bytes(usize),
-    Unreadable,
-}
-
-// The variable; or the word is none, which was said.
-#[derive(Clone, Copy)]
-enum Variable {
-    Number(u32),
-    Unread,
-}
+use text::word::{NumberError, read_number};
 
 // Reads an open file into a buffer with room for one byte too many, until that is full or the file ends: one that is
 // longer is refused alike. How many bytes of the buffer were read.
+// (std's `read_exact` does not tell how much of a shorter one was read.)
+#[tactic(auto, using(text::proofs::Reading::read_more))]
 fn read_open<R: Read>(file: &mut R, buf: &mut [u8]) -> io::Result<usize>
     ensures within { IfOk result (λ n. n ≤ length buf.new) }
     ensures read { IfOk result (λ n. Consumes (R.remaining file.old) (R.remaining file.new) (take n buf.new)) }
@@ -75,18 +63,19 @@ fn has_argument(rt: &impl Env, i: usize) -> bool {
     !matches!(rt.arg(i, &mut [0u8; 0]), Err(FillError::NotPresent))
 }
 
-// Reads the table from the file that argument 1 names, or says why it cannot be read.
-fn read_table(rt: &(impl Env + Files), errors: &impl Print, buf: &mut [u8]) -> Contents
-    ensures { Within result (length buf.new) }
+// Reads the table from the file that argument 1 names, or says why it cannot be read. How many bytes of the buffer were
+// read.
+fn read_table(rt: &(impl Env + Files), errors: &impl Print, buf: &mut [u8]) -> Option<usize>
+    ensures { IfSome result (λ n. n ≤ length buf.new) }
 {
     let mut space = [0u8; 4096];
     let n = rt.arg(1, &mut space).unwrap_or(0);
     let path = &space[..n];
     match read_path(rt, path, buf) {
-        Ok(bytes) => Contents::Bytes(bytes),
+        Ok(bytes) => Some(bytes),
         Err(why) => {
             fail(errors, path, why);
-            Contents::Unreadable
+            None
         }
     }
 }
@@ -97,24 +86,19 @@ fn complain(errors: &impl Print, what: &str) {
 }
 
 // The variable that argument 2 is, or a complaint.
-fn read_variable(rt: &impl Env, errors: &impl Print) -> Variable {
+fn read_variable(rt: &impl Env, errors: &impl Print) -> Option<u32> {
     let mut space = [0u8; 4096];
     let Ok(n) = rt.arg(2, &mut space) else {
         complain(errors, "has more than 4096 bytes");
-        return Variable::Unread;
+        return None;
     };
-    let word = read_number(&space[..n]);
-    match word {
-        ReadNumber::Number(x) => Variable::Number(x),
-        ReadNumber::NoNumber => {
-            complain(errors, "is no number");
-            Variable::Unread
-        }
-        ReadNumber::TooWide => {
-            complain(errors, "needs more than 32 bits");
-            Variable::Unread
-        }
-    }
+    let fault = match read_number(&space[..n]) {
+        Ok(variable) => return Some(variable),
+        Err(NumberError::NoNumber) => "is no number",
+        Err(NumberError::TooWide) => "needs more than 32 bits",
+    };
+    complain(errors, fault);
+    None
 }
 
 // Prints what the path call answers.
@@ -136,12 +120,10 @@ fn main(rt: HostRuntime) {
         return;
     }
     let mut table = [0u8; 65537];
-    let table_read = read_table(&rt, &errors, &mut table);
-    let Contents::Bytes(t) = table_read else {
+    let Some(t) = read_table(&rt, &errors, &mut table) else {
         return;
     };
-    let variable_read = read_variable(&rt, &errors);
-    let Variable::Number(v) = variable_read else {
+    let Some(v) = read_variable(&rt, &errors) else {
         return;
     };
     print_path(&rt, &errors, &table[..t], v);

@@ -8,16 +8,14 @@ use native.Mathlib.Omega.{arith}
 use borrow.Author.Tests.{le-ltb, eq-eqb}
 use lib.ListN.{length, take, drop, get_or, get_or-append}
 use lib.Seq.{take_at}
-use Rattle.circuit.specs.declared.refusal.Check.TheVariants.{Passed}
-use Rattle.circuit.specs.Refusal.{◌then◌}
+use Rattle.circuit.specs.Refusal.{passed, ◌then◌}
 use Rattle.circuit.specs.Reading.{record_bytes}
 use Rattle.circuit.specs.Circuit.{Circuit, circuit, NoLoop}
 use Rattle.circuit.specs.Checks.{check_length, check_records, Checked}
 use Rattle.circuit.proofs.Tables.{circuit_length, circuit_inside}
 use Rattle.fact.specs.Fact.{fact_at}
-use Rattle.call.specs.Call.{Lent, output_of}
+use Rattle.call.specs.Call.{Lent, accepted, output_of}
 use Rattle.call.proofs.Parts.{table_checked}
-use Rattle.trim.specs.declared.Trimmed.TheVariants.{Accepted}
 use Rattle.trim.specs.Trimmed.{replaced, survivors, trimmed}
 use Rattle.trim.specs.Ready.{Trimmable}
 use Rattle.trim.specs.Promise.{lent, left, second_of, trimming, CallTrims}
@@ -29,13 +27,13 @@ use Rattle.trim.proofs.Bytes.{records_length, written_pass, written_circuit}
 use Rattle.trim.proofs.Promise.{accepted_few}
 
 -- none of grounds 1 and 2 holds of at most 4,096 whole records
-pub length_passes : (n : ℕ) → n ≤ 4096 → check_length (n * 16) ≡ Passed
+pub length_passes : (n : ℕ) → n ≤ 4096 → check_length (n * 16) ≡ passed
 length_passes n few =
     let whole : n * 16 % 16 ≡ 0 = omega arith in
     rw (le-ltb 65536 (n * 16) (omega arith), eq-eqb (n * 16 % 16) 0 whole)
 
 module _ {certificate kept t first second scratch first' second' scratch' : List ℕ} {k : ℕ}
-    (p : CallTrims certificate kept (lent t first second scratch) (left first' second' scratch') (Accepted k)) where
+    (p : CallTrims certificate kept (lent t first second scratch) (left first' second' scratch') (accepted k)) where
   abbrev l : Lent
   l = lent t first second scratch
 
@@ -59,7 +57,7 @@ module _ {certificate kept t first second scratch first' second' scratch' : List
   table = table_checked (trimming certificate kept) l p.past.passed
 
   -- what is known of a call that meets none of grounds 20 to 22
-  pub accepted_trimmable : Trimmable t n certificate kept (length first) (length second)
+  pub accepted_trimmable : Trimmable (circuit t n) n certificate kept (length first) (length second)
   accepted_trimmable = trimmable t n certificate kept (length first) (length second) table p.later
 
   -- the number that is answered is that of the trimmed circuit's variables
@@ -102,17 +100,17 @@ module _ {certificate kept t first second scratch first' second' scratch' : List
       ∙ written_circuit c' [] small valid
 
   -- grounds 1 and 2 do not hold of it
-  pub trimmed_length_passes : check_length (length t') ≡ Passed
+  pub trimmed_length_passes : check_length (length t') ≡ passed
   trimmed_length_passes = rw trimmed_bytes (length_passes k (omega (arith, trimmed_few, table.small)))
 
   -- nor do grounds 5 to 10
-  pub trimmed_records_pass : check_records t' (length t' / 16) ≡ Passed
+  pub trimmed_records_pass : check_records t' (length t' / 16) ≡ passed
   trimmed_records_pass =
       ap (check_records t') trimmed_records ∙ ap (λ (b : List ℕ). check_records b k) bytes
       ∙ ap (check_records (flat_map record_bytes c' ++ [])) trimmed_size ∙ written_pass c' [] small valid
 
   -- none of them holds
-  pub trimmed_passes : (check_length (length t') then check_records t' (length t' / 16)) ≡ Passed
+  pub trimmed_passes : (check_length (length t') then check_records t' (length t' / 16)) ≡ passed
   trimmed_passes = rw trimmed_length_passes trimmed_records_pass
 
   -- nor does ground 11: no row is a loop

@@ -10,7 +10,7 @@ use lib.ListN.{length, get_or, length-append, get_or-append}
 use lib.Seq.{ext_get_or, get_or-append-add}
 use Rattle.circuit.specs.declared.record.InputKind.TheVariants.{Fixed}
 use Rattle.circuit.specs.declared.record.Record.TheVariants.{Input}
-use Rattle.circuit.specs.declared.refusal.Check.TheVariants.{Passed}
+use Rattle.circuit.specs.Refusal.{passed}
 use Rattle.circuit.specs.Reading.{fields_at, decode, encode, record_bytes}
 use Rattle.circuit.specs.Circuit.{Circuit, circuit, record_of}
 use Rattle.circuit.specs.Checks.{check_records}
@@ -63,7 +63,7 @@ module _ (rs : Circuit) (rest : List ℕ) (few : length rs ≤ 65536) (valid : A
       (valid_small (encode (record_of rs i)) (length rs) (omega arith) few (valid i h))
 
   -- all pass
-  pub written_pass : check_records t (length rs) ≡ Passed
+  pub written_pass : check_records t (length rs) ≡ passed
   written_pass = records_pass t (length rs) (λ i h. rw (written_fields i h) (valid i h))
 
   -- the table's circuit is the records

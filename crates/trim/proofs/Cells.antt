@@ -2,14 +2,14 @@
 -- Assumes nothing.
 use mathlib.Core.Path.{◌≡◌, refl, sym, ap, ◌∙◌, subst}
 use mathlib.Core.List.{List, [], ◌∷◌}
-use Prim.Native.Nat.{ℕ, suc, ◌+◌, ◌^◌, ◌<◌, ◌≤◌}
-use native.Mathlib.Nat.{add-suc, pow-le-pow_right}
+use Prim.Native.Nat.{ℕ, zero, suc, ◌+◌, ◌^◌, ◌<◌, ◌≤◌}
+use native.Mathlib.Nat.{not-suc-le-zero, le_of_suc-le-suc, add-zero, pow-le-pow_right}
 use native.Mathlib.Numerals.{add-one}
 use native.Mathlib.Omega.{arith}
 use borrow.Author.Tests.{eqb-true}
 use lib.Dec.{T, eqb, lit<}
-use lib.ListN.{length, get_or, set}
-use lib.Seq.{sets}
+use lib.ListN.{length, get_or, set, take}
+use lib.Seq.{sets, take_all}
 use Rattle.net.specs.Tests.{member}
 use Rattle.net.proofs.Bools.{T_of, of_T, every_at, member_1, member_2, member_3}
 use Rattle.buffer.specs.Store.{Wrote}
@@ -108,29 +108,24 @@ fields_read f s =
       value = u32_bytes_lem f.value s.value i;
     }
 
--- numbers written at a place and behind it, each at its distance from the place, as the code has them
-abbrev behind : List ℕ → ℕ → ℕ → List ℕ → List ℕ
-behind l at k [] = l
-behind l at k (x ∷ xs) = behind (set l (at + k) x) at (suc k) xs
+-- one more of the numbers that are written one after another
+pub sets_next : (vs l : List ℕ) (at i : ℕ) → i < length vs
+    → set (sets l at (take i vs)) (at + i) (get_or vs i 0) ≡ sets l at (take (i + 1) vs)
+sets_next vs l at i h =
+    next vs l at i h ∙ ap (λ (k : ℕ). sets l at (take k vs)) (sym (add-one i))
+  where
+    next : (vs l : List ℕ) (at i : ℕ) → i < length vs
+        → set (sets l at (take i vs)) (at + i) (get_or vs i 0) ≡ sets l at (take (suc i) vs)
+    next [] l at i h = absurd (not-suc-le-zero h)
+    next (v ∷ vs) l at zero h = rw add-zero
+    next (v ∷ vs) l at (suc i) h =
+        let further : at + suc i ≡ suc at + i = omega arith in
+        rw further (next vs (set l at v) (suc at) i (le_of_suc-le-suc h))
 
-abbrev pub placed : List ℕ → ℕ → List ℕ → List ℕ
-placed l at [] = l
-placed l at (x ∷ xs) = behind (set l at x) at 1 xs
-
-behind_sets : (xs l : List ℕ) (at k : ℕ) → behind l at k xs ≡ sets l (at + k) xs
-behind_sets [] l at k = refl
-behind_sets (x ∷ xs) l at k =
-    behind_sets xs (set l (at + k) x) at (suc k)
-    ∙ ap (λ (i : ℕ). sets (set l (at + k) x) i xs) (add-suc at k)
-
-placed_sets : (xs l : List ℕ) (at : ℕ) → placed l at xs ≡ sets l at xs
-placed_sets [] l at = refl
-placed_sets (x ∷ xs) l at =
-    behind_sets xs (set l at x) at 1 ∙ ap (λ (i : ℕ). sets (set l at x) i xs) (add-one at)
-
--- fields written byte by byte
-pub fields_stored : (l : List ℕ) (at : ℕ) (f : Fields) → Small f → at + 16 ≤ length l
-    → Wrote field_cells l (placed l at (field_bytes f)) at f
-fields_stored l at f s room =
-    subst (λ (l' : List ℕ). Wrote field_cells l l' at f) (sym (placed_sets (field_bytes f) l at))
+-- all 16 bytes of fields
+pub fields_stored : (l : List ℕ) (at i : ℕ) (f : Fields) {l' bytes : List ℕ} → l' ≡ sets l at (take i bytes)
+    → length bytes ≤ i → bytes ≡ field_bytes f → Small f → at + 16 ≤ length l → Wrote field_cells l l' at f
+fields_stored l at i f {bytes = bytes} written all is s room =
+    subst (λ (l' : List ℕ). Wrote field_cells l l' at f)
+    (ap (sets l at) (sym is ∙ sym (take_all i bytes all)) ∙ sym written)
     (wrote_sets field_laws l at f (fields_read f s) room)

@@ -3,18 +3,18 @@
 -- Assumes nothing.
 use mathlib.Core.Path.{◌≡◌, refl, sym, ap, subst}
 use mathlib.Core.Bool.{Bool, true, false, not, ◌||◌}
+use Rattle.std.specs.Prelude.{Option, Some, None, cond}
+use Rattle.std.specs.List.{position_from}
 use mathlib.Core.List.{List, [], ◌∷◌}
-use Prim.Native.Nat.{ℕ, zero, suc, ◌+◌, ◌-◌, ◌*◌, ◌/◌, ◌^◌, ◌≤◌, ◌<◌}
-use native.Mathlib.Nat.{not-suc-le-zero, le_of_suc-le-suc, sub-zero}
-use native.Mathlib.Numerals.{add-one}
+use Prim.Native.Nat.{ℕ, zero, suc, ◌+◌, ◌*◌, ◌/◌, ◌^◌, ◌≤◌, ◌<◌}
+use native.Mathlib.Nat.{not-suc-le-zero, le_of_suc-le-suc}
 use native.Mathlib.Decide.{ℕ_discrete}
 use native.Mathlib.Omega.{arith}
-use borrow.Author.Tests.{ltb-false, leb-false, eqb-true, not-false, le-leb, lt-leb, eq-eqb, ne_eqb}
+use borrow.Author.Tests.{ltb-false, leb-false, eqb-true, not-false, eq-eqb, ne_eqb}
 use lib.Dec.{eqb, leb, ltb}
-use lib.ListN.{length, drop, get_or, drop_of_length-le}
-use lib.Seq.{drop-cons}
+use lib.ListN.{length, get_or}
 use Rattle.circuit.specs.declared.refusal.Ground.TheVariants.{NoSuchKept, TrimmedShort, BadCertificate}
-use Rattle.circuit.specs.declared.refusal.Check.TheVariants.{Passed, Refused}
+use Rattle.circuit.specs.Refusal.{Check, passed, refused, refuse}
 use Rattle.circuit.specs.Number.{u32_at}
 use Rattle.circuit.specs.Record.{width}
 use Rattle.circuit.specs.Reading.{fields_at}
@@ -30,23 +30,26 @@ use Rattle.trim.specs.Ready.{FactFits, Trimmable}
 
 -- ---- the kept variables one after another
 
-module _ (n : ℕ) (kept : List ℕ) (i : ℕ) where
-  pub kept_passed : i < length kept → get_or kept i 0 < n
-      → check_kept n (drop i kept) i ≡ check_kept n (drop (i + 1) kept) (i + 1)
-  unfolding check_kept
-  kept_passed h below =
-      rw (drop-cons kept i 0 h, lt-leb n (get_or kept i 0) below)
-      (ap (λ (k : ℕ). check_kept n (drop k kept) (i + 1)) (sym (add-one i)))
+-- what is answered for the first of them that is past the records
+abbrev pub kept_answer : Option ℕ → Check
+kept_answer (Some i) = refused NoSuchKept i
+kept_answer None = passed
 
-  pub kept_refused : i < length kept → n ≤ get_or kept i 0 → check_kept n (drop i kept) i ≡ Refused NoSuchKept i
-  unfolding check_kept
-  kept_refused h past = rw (drop-cons kept i 0 h, le-leb n (get_or kept i 0) past)
+kept_next : (n from v : ℕ) (b : Bool) (found : Option ℕ) (rest : Check) → kept_answer found ≡ rest
+    → kept_answer (cond b (Some from) found) ≡ refuse NoSuchKept from b rest
+kept_next n from v true found rest e = refl
+kept_next n from v false found rest e = e
 
-  pub kept_end : length kept ≤ i → check_kept n (drop i kept) i ≡ Passed
-  unfolding check_kept
-  kept_end h = rw drop_of_length-le
+pub kept_first : (n : ℕ) (kept : List ℕ) (from : ℕ) → kept_answer (position_from (leb n) from kept) ≡ check_kept n kept from
+unfolding check_kept
+kept_first n [] from = refl
+kept_first n (v ∷ vs) from = kept_next n from v (leb n v) _ _ (kept_first n vs (from + 1))
 
-kept_known : (n : ℕ) (kept : List ℕ) (from i : ℕ) → check_kept n kept from ≡ Passed → i < length kept
+-- a table has as many variables as records
+pub kept_here : (t : List ℕ) (n : ℕ) (kept : List ℕ) → check_kept n kept 0 ≡ check_kept (length (circuit t n)) kept 0
+kept_here t n kept = ap (λ (k : ℕ). check_kept k kept 0) (sym (circuit_length t n))
+
+kept_known : (n : ℕ) (kept : List ℕ) (from i : ℕ) → check_kept n kept from ≡ passed → i < length kept
     → get_or kept i 0 < n
 unfolding check_kept
 kept_known n [] from i e h = absurd (not-suc-le-zero h)
@@ -60,31 +63,30 @@ kept_known n (v ∷ vs) from (suc i) e h =
 abbrev pub bad_at : Circuit → List ℕ → ℕ → Bool
 bad_at c cells i = bad_fact (width (record_of c i)) (get_or cells (i * 8) 0) (u32_at cells (i * 8 + 4))
 
-module _ (c : Circuit) (cells : List ℕ) (n : ℕ) where
-  pub facts_start : check_facts_from c cells n 0 ≡ check_facts_from c cells (n - 0) 0
-  facts_start = rw sub-zero
+module _ (c : Circuit) (cells : List ℕ) where
+  pub facts_pass : (count from : ℕ) → ((v : ℕ) → from ≤ v → v < from + count → bad_at c cells v ≡ false)
+      → check_facts_from c cells count from ≡ passed
+  unfolding check_facts_from
+  facts_pass zero from h = refl
+  facts_pass (suc count) from h =
+      rw (h from (omega arith) (omega arith))
+      (facts_pass count (from + 1) (λ v low high. h v (omega arith) (omega arith)))
 
-  module _ (i : ℕ) where
-    left : i < n → n - i ≡ suc (n - (i + 1))
-    left h = omega arith
+  -- the first bad one is told
+  pub facts_refused : (count from v : ℕ) → from ≤ v → v < from + count → bad_at c cells v ≡ true
+      → ((u : ℕ) → from ≤ u → u < v → bad_at c cells u ≡ false)
+      → check_facts_from c cells count from ≡ refused BadCertificate v
+  unfolding check_facts_from
+  facts_refused zero from v low high bad good = absurd (omega arith)
+  facts_refused (suc count) from v low high bad good =
+      elim (ℕ_discrete from v) [
+        | yes e ↦ rw (e, bad)
+        | no ne ↦
+            rw (good from (omega arith) (omega arith))
+            (facts_refused count (from + 1) v (omega arith) (omega arith) bad (λ u l h. good u (omega arith) h))
+      ]
 
-    pub fact_passed : i < n → bad_at c cells i ≡ false
-        → check_facts_from c cells (n - i) i ≡ check_facts_from c cells (n - (i + 1)) (i + 1)
-    unfolding check_facts_from
-    fact_passed h e = rw (left h, e)
-
-    pub fact_refused : i < n → bad_at c cells i ≡ true → check_facts_from c cells (n - i) i ≡ Refused BadCertificate i
-    unfolding check_facts_from
-    fact_refused h e = rw (left h, e)
-
-    pub facts_end : n ≤ i → check_facts_from c cells (n - i) i ≡ Passed
-    unfolding check_facts_from
-    facts_end h = rw none
-      where
-        none : n - i ≡ 0
-        none = omega arith
-
-facts_known : (c : Circuit) (cells : List ℕ) (count i : ℕ) → check_facts_from c cells count i ≡ Passed
+facts_known : (c : Circuit) (cells : List ℕ) (count i : ℕ) → check_facts_from c cells count i ≡ passed
     → (v : ℕ) → i ≤ v → v < i + count → bad_at c cells v ≡ false
 unfolding check_facts_from
 facts_known c cells zero i e v low high = absurd (omega arith)
@@ -97,7 +99,7 @@ facts_known c cells (suc count) i e v low high =
 
 -- the certificate's length, then its facts
 module _ (t : List ℕ) (n : ℕ) (cells : List ℕ) where
-  pub certificate_refused : (length cells ≡ n * 8 → ⊥) → check_certificate (circuit t n) cells ≡ Refused BadCertificate 0
+  pub certificate_refused : (length cells ≡ n * 8 → ⊥) → check_certificate (circuit t n) cells ≡ refused BadCertificate 0
   unfolding check_certificate
   certificate_refused ne = rw (circuit_length t n, ne_eqb (length cells) (n * 8) ne)
 
@@ -105,18 +107,6 @@ module _ (t : List ℕ) (n : ℕ) (cells : List ℕ) where
       → check_certificate (circuit t n) cells ≡ check_facts_from (circuit t n) cells n 0
   unfolding check_certificate
   certificate_whole e = rw (circuit_length t n, eq-eqb (length cells) (n * 8) e)
-
--- a fact that is always is bad by its number
-pub always_bad : {w w' byte x x' : ℕ} → w ≡ w' → x ≡ x' → byte ≡ 1 → leb (2 ^ w) x ≡ bad_fact w' byte x'
-always_bad e k is = rw (e, k, is)
-
--- any other by its byte
-pub other_bad : (w byte x : ℕ) → (byte ≡ 0 → ⊥) → (byte ≡ 1 → ⊥) → ltb 3 byte ≡ bad_fact w byte x
-other_bad w byte x zero-not one-not = go (ltb 3 byte) refl
-  where
-    go : (b : Bool) → ltb 3 byte ≡ b → ltb 3 byte ≡ bad_fact w byte x
-    go true e = rw (ne_eqb byte 0 zero-not, e)
-    go false e = rw (ne_eqb byte 0 zero-not, e, ne_eqb byte 1 one-not)
 
 -- what the code finds of variable v's fact is what the definition finds
 pub bad_here : (t : List ℕ) (n v : ℕ) (cells : List ℕ) → v < n
@@ -126,10 +116,10 @@ bad_here t n v cells h = rw (circuit_record t n v h, decode_width (fields_at t (
 
 -- ---- a call that meets none of the grounds
 
-room_lent : (bytes trimmed numbers : ℕ) → check_room bytes trimmed numbers ≡ Passed
+room_lent : (bytes trimmed numbers : ℕ) → check_room bytes trimmed numbers ≡ passed
     → (bytes ≤ trimmed) × (bytes / 16 ≤ numbers)
 room_lent bytes trimmed numbers e =
-    let tests = (refuse_passed TrimmedShort 0 (ltb trimmed bytes || ltb numbers (bytes / 16)) Passed e).0 in
+    let tests = (refuse_passed TrimmedShort 0 (ltb trimmed bytes || ltb numbers (bytes / 16)) passed e).0 in
     let (first, second) = both_false (ltb trimmed bytes) (ltb numbers (bytes / 16)) tests in
     (ltb-false trimmed bytes first, ltb-false numbers (bytes / 16) second)
 
@@ -140,8 +130,8 @@ fact_fits w (suc (suc zero)) n e = tt
 fact_fits w (suc (suc (suc byte))) n e = tt
 
 pub trimmable : (t : List ℕ) (n : ℕ) (certificate kept : List ℕ) (trimmed numbers : ℕ) → Checked t n
-    → check_trim (length t) (circuit t n) certificate kept trimmed numbers ≡ Passed
-    → Trimmable t n certificate kept trimmed numbers
+    → check_trim (length t) (circuit t n) certificate kept trimmed numbers ≡ passed
+    → Trimmable (circuit t n) n certificate kept trimmed numbers
 unfolding check_certificate
 trimmable t n certificate kept trimmed numbers table e =
     let c = circuit t n in
@@ -154,7 +144,6 @@ trimmable t n certificate kept trimmed numbers table e =
     let size = circuit_length t n in
     let long : length certificate ≡ length c * 8 = eqb-true _ _ (not-false _ whole) in
     record {
-      table = table;
       kept_below = λ i h. omega (arith, kept_known (length c) kept 0 i known h);
       trimmed_lent = omega (arith, table.long);
       numbers_lent = omega (arith, table.long);

@@ -15,8 +15,8 @@ use Rattle.net.specs.Net.{wire}
 use Rattle.net.specs.Machine.{run, Renumbered, none, ticks, pokes}
 use Rattle.net.proofs.Settle.{input_wire, wire_register}
 use Rattle.net.proofs.Mapped.{Follows, settle_follows, run_follows}
-use Rattle.circuit.specs.declared.refusal.Check.TheVariants.{Passed}
-use Rattle.circuit.specs.declared.stimulus.ReadStimulus.TheVariants.{Read}
+use Rattle.circuit.specs.Refusal.{passed}
+use Rattle.std.specs.Prelude.{Ok}
 use Rattle.circuit.specs.Record.{role}
 use Rattle.circuit.specs.Circuit.{Circuit, record_of, graph, NoLoop}
 use Rattle.circuit.specs.Machine.{value, values, initial, power_on, machine}
@@ -97,7 +97,7 @@ module _ (c : Circuit) (kept : List ℕ) (inside : Inside c) (no_loop : NoLoop c
       (λ v h e. initial_same v h (λ d. wire_register (sym d ∙ e)))
 
   -- a poke that passes, passes by its new number
-  poke_follows : (j x : ℕ) → j < length c' → Poked c (old j) x → check_stimulus c' (Read (Poke j x)) 0 ≡ Passed
+  poke_follows : (j x : ℕ) → j < length c' → Poked c (old j) x → check_stimulus c' (Ok (Poke j x)) 0 ≡ passed
   poke_follows j x h p =
       let (w, k, e) = input_record (record_of c (old j)) p.is_input_lem in
       let e' = input_stays c (certificate c) kept j h w k e in

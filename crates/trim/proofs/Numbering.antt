@@ -28,11 +28,8 @@ module _ (t : List ℕ) (n v : ℕ) (h : v < n) (s : List ℕ) where
   pub input_remains : (fields_at t (v * 16)).kind ≡ 0 → true ≡ remains (circuit t n) s v
   input_remains e = rw (remains_here, e)
 
-  pub visited_remains : (get_or s v 0 ≡ 0 → ⊥) → ((fields_at t (v * 16)).kind ≡ 0 → ⊥) → true ≡ remains (circuit t n) s v
-  visited_remains m ne = rw (remains_here, ne_eqb (fields_at t (v * 16)).kind 0 ne, ne_eqb (get_or s v 0) 0 m)
-
-  pub unvisited_drops : get_or s v 0 ≡ 0 → ((fields_at t (v * 16)).kind ≡ 0 → ⊥) → false ≡ remains (circuit t n) s v
-  unvisited_drops e ne = rw (remains_here, ne_eqb (fields_at t (v * 16)).kind 0 ne, e)
+  pub other_remains : ((fields_at t (v * 16)).kind ≡ 0 → ⊥) → not (eqb (get_or s v 0) 0) ≡ remains (circuit t n) s v
+  other_remains ne = rw (remains_here, ne_eqb (fields_at t (v * 16)).kind 0 ne)
 
 pub remains_agree : (c : Circuit) (s s' : List ℕ) (v : ℕ) → get_or s v 0 ≡ get_or s' v 0 → remains c s v ≡ remains c s' v
 remains_agree c s s' v e = rw e
@@ -72,9 +69,6 @@ module _ (t : List ℕ) (n : ℕ) (entry : List ℕ) where
       filled_next : Filled n (i + 1) (place_of p) entry (set s (n + i) count)
       filled_next = filled_more n i (n + i) count (place_of p) entry s refl number_lent q.counted q.filled
 
-      pub next_lent : i < length (set s (n + i) count)
-      next_lent = omega (arith, filled_next.long)
-
       -- whether variable i remains is seen in the scratch as it is now
       seen : remains (circuit t n) (set s (n + i) count) i ≡ p i
       seen = remains_agree (circuit t n) (set s (n + i) count) entry i (filled_next.before i h)
@@ -96,12 +90,9 @@ module _ (t : List ℕ) (n : ℕ) (entry : List ℕ) where
               filled = filled_next;
             }
 
-    pub all_numbered : n ≤ i → (count ≡ place_of p n) × Filled n n (place_of p) entry s
-    all_numbered h = let e : i ≡ n = omega (arith, q.within) in (rw e at q.counted, rw e at q.filled)
-
 -- what is written behind the flags leaves them as they were
 pub numbered : (t : List ℕ) (n : ℕ) (entry s : List ℕ) → n + n ≤ length entry
-    → Filled n n (place_of (remains (circuit t n) entry)) entry s → Numbered t n s
+    → Filled n n (place_of (remains (circuit t n) entry)) entry s → Numbered (circuit t n) n s
 numbered t n entry s room filled =
     record {
       room = omega (arith, filled.long);

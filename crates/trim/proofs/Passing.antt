@@ -7,30 +7,22 @@ use Prim.Native.Nat.{ℕ, zero, suc, ◌+◌, ◌*◌, ◌/◌, ◌^◌, ◌≤�
 use native.Mathlib.Omega.{arith}
 use borrow.Author.Tests.{le-ltb, lt-leb, eq-eqb}
 use lib.ListN.{length, get_or}
-use Rattle.circuit.specs.declared.refusal.Check.TheVariants.{Passed}
+use Rattle.circuit.specs.Refusal.{passed}
 use Rattle.circuit.specs.Number.{u32_at}
 use Rattle.circuit.specs.Record.{width}
-use Rattle.circuit.specs.Circuit.{Circuit, circuit, record_of}
+use Rattle.circuit.specs.Circuit.{circuit, record_of}
 use Rattle.circuit.proofs.Tables.{circuit_length}
 use Rattle.fact.specs.Fact.{fact_of, fact_at}
-use Rattle.trim.specs.Order.{check_kept, bad_fact, check_facts_from, check_certificate, check_trim}
+use Rattle.trim.specs.Order.{check_kept, bad_fact, check_certificate, check_trim}
 use Rattle.trim.specs.Ready.{FactFits}
-use Rattle.trim.proofs.Grounds.{bad_at}
+use Rattle.trim.proofs.Grounds.{facts_pass}
 
 kept_passes : (n : ℕ) (kept : List ℕ) (from : ℕ) → ((i : ℕ) → i < length kept → get_or kept i 0 < n)
-    → check_kept n kept from ≡ Passed
+    → check_kept n kept from ≡ passed
 unfolding check_kept
 kept_passes n [] from h = refl
 kept_passes n (v ∷ vs) from h =
     rw (lt-leb n v (h zero (suc-le-suc zero-le))) (kept_passes n vs (from + 1) (λ i l. h (suc i) (suc-le-suc l)))
-
-facts_pass : (c : Circuit) (cells : List ℕ) (count i : ℕ)
-    → ((v : ℕ) → i ≤ v → v < i + count → bad_at c cells v ≡ false) → check_facts_from c cells count i ≡ Passed
-unfolding check_facts_from
-facts_pass c cells zero i h = refl
-facts_pass c cells (suc count) i h =
-    rw (h i (omega arith) (omega arith))
-    (facts_pass c cells count (i + 1) (λ v low high. h v (omega arith) (omega arith)))
 
 -- a fact byte from 1 to 3 with a fact that fits is not bad
 fits_good : (w byte n : ℕ) → 1 ≤ byte → byte ≤ 3 → FactFits w (fact_of byte n) → bad_fact w byte n ≡ false
@@ -47,7 +39,7 @@ pub trim_passes : (t : List ℕ) (certificate kept : List ℕ) (trimmed numbers 
     → length certificate ≡ n * 8
     → ((v : ℕ) → v < n → (1 ≤ get_or certificate (v * 8) 0) × (get_or certificate (v * 8) 0 ≤ 3)
     × FactFits (width (record_of (circuit t n) v)) (fact_at certificate v))
-    → check_trim (length t) (circuit t n) certificate kept trimmed numbers ≡ Passed
+    → check_trim (length t) (circuit t n) certificate kept trimmed numbers ≡ passed
 unfolding check_certificate
 trim_passes t certificate kept trimmed numbers below room olds long facts =
     let n = length t / 16 in

@@ -10,8 +10,7 @@ use lib.Dec.{eqb, leb, ltb}
 use lib.ListN.{length}
 use Rattle.circuit.specs.declared.refusal.Ground.{Ground}
 use Rattle.circuit.specs.declared.refusal.Ground.TheVariants.{NoSuchKept, TrimmedShort, BadCertificate}
-use Rattle.circuit.specs.declared.refusal.Check.TheVariants.{Passed}
-use Rattle.circuit.specs.Refusal.{ground_number}
+use Rattle.circuit.specs.Refusal.{ground_number, passed}
 use Rattle.circuit.specs.Circuit.{Circuit}
 use Rattle.circuit.proofs.Places.{Refusals, then_refusals, refuse_refusals}
 use Rattle.trim.specs.Order.{check_kept, check_room, check_facts_from, check_certificate, check_trim}
@@ -48,7 +47,7 @@ trim_refusals bytes c certificate kept trimmed numbers =
     then_refusals P (check_kept (length c) kept 0) _
     (kept_refusals (length c) (length kept) (length c) kept 0 (omega arith))
     (λ _. then_refusals P (check_room bytes trimmed numbers) _
-    (refuse_refusals P TrimmedShort 0 (ltb trimmed bytes || ltb numbers (bytes / 16)) Passed
+    (refuse_refusals P TrimmedShort 0 (ltb trimmed bytes || ltb numbers (bytes / 16)) passed
     (inr (omega arith, omega arith, omega arith)) (λ _. tt))
     (λ _. refuse_refusals P BadCertificate 0 (not (eqb (length certificate) (length c * 8))) _
     (inr (omega arith, omega arith, omega arith))

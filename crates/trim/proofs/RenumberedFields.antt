@@ -73,7 +73,7 @@ module _ (t : List ℕ) (n : ℕ) (certificate s : List ℕ) (v : ℕ) (table : 
         ∙ ap (replace (fact_of byte number)) (circuit_record t n v h ∙ ap decode (sym e))
 
     pub constant_survives : {x : ℕ} → x ≡ number → constant f ≡ true
-        → encode (Constant f.width x) ≡ survivor_fields t n certificate s v
+        → encode (Constant f.width x) ≡ survivor_fields (circuit t n) certificate s v
     constant_survives {x} k told =
         let (other, always) = both_true (not (eqb f.kind 0)) (eqb byte 1) told in
         let is : record_of (replaced (circuit t n) (fact_at certificate)) v ≡ Constant f.width x =
@@ -94,8 +94,8 @@ module _ (t : List ℕ) (n : ℕ) (certificate s : List ℕ) (v : ℕ) (table : 
     pub survivor_below : Below n f
     survivor_below = rw e (fields_below (fields_at t (v * 16)) n valid (omega arith))
 
-    pub renumbered_survives : Numbered t n s → constant f ≡ false
-        → renumber_fields (λ u. get_or s (n + u) 0) f ≡ survivor_fields t n certificate s v
+    pub renumbered_survives : Numbered (circuit t n) n s → constant f ≡ false
+        → renumber_fields (λ u. get_or s (n + u) 0) f ≡ survivor_fields (circuit t n) certificate s v
     unfolding place_of
     renumbered_survives numbered told =
         let b = survivor_below in

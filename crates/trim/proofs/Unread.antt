@@ -10,24 +10,22 @@ use native.Mathlib.Omega.{arith}
 use borrow.Author.Tests.{ne_eqb}
 use lib.Dec.{eqb}
 use lib.ListN.{length, get_or, drop}
+use Rattle.std.specs.Prelude.{Ok, Err}
 use Rattle.net.proofs.Cases.{by_same}
 use Rattle.circuit.specs.declared.refusal.Ground.TheVariants.{BadCertificate}
-use Rattle.circuit.specs.declared.refusal.Check.{Check}
+use Rattle.circuit.specs.Refusal.{ground_number, Check, Finds, refuse, ◌then◌}
 use Rattle.circuit.specs.Number.{u32_at}
-use Rattle.circuit.specs.Refusal.{ground_number, Finds, refuse, ◌then◌}
 use Rattle.circuit.specs.Reading.{record_bytes}
 use Rattle.circuit.specs.Record.{width}
 use Rattle.circuit.specs.Circuit.{Circuit, record_of}
 use Rattle.circuit.proofs.Tables.{circuit_length}
 use Rattle.fact.specs.Fact.{fact_of, fact_at}
 use Rattle.fact.proofs.Cells.{fact_past}
-use Rattle.call.specs.Call.{Lent, Left, output_of, size, circuit_of, PastEleven}
+use Rattle.call.specs.Call.{Lent, Left, Answer, output_of, size, circuit_of, PastEleven}
 use Rattle.call.proofs.Contents.{BothLoops}
-use Rattle.trim.specs.declared.Trimmed.{Trimmed}
-use Rattle.trim.specs.declared.Trimmed.TheVariants.{Accepted, Refused}
 use Rattle.trim.specs.Trimmed.{survivors, trimmed}
 use Rattle.trim.specs.Order.{check_kept, check_room, bad_fact, check_facts_from, check_certificate}
-use Rattle.trim.specs.Promise.{second_of, called, Trims, trimming, answer_of, CallTrims}
+use Rattle.trim.specs.Promise.{second_of, called, Trims, trimming, CallTrims}
 use Rattle.trim.specs.Unread.{SameRead}
 use Rattle.trim.proofs.Replaced.{replaced_agree}
 use Rattle.trim.proofs.Grounds.{bad_at}
@@ -110,16 +108,16 @@ module _ (a b kept : List ℕ) (l : Lent) (h : SameRead (size l) a b) where
   past_same e p = record { passed = p.passed; no_loop = p.no_loop; scratch = p.scratch }
 
   -- what is promised by one is promised by the other
-  promise_same : (e : Left) (r : Trimmed) → CallTrims b kept l e r → CallTrims a kept l e r
-  promise_same e (Accepted k) p =
+  promise_same : (e : Left) (r : Answer) → CallTrims b kept l e r → CallTrims a kept l e r
+  promise_same e (Ok k) p =
       record {
         past = past_same e p.past;
         later = sym later_same ∙ p.later;
         accepts = trims_same e.outputs k p.accepts;
       }
-  promise_same e (Refused g place) (inl p) =
+  promise_same e (Err r) (inl p) =
       inl (record { first = p.first; outputs = p.outputs; scratch = p.scratch })
-  promise_same e (Refused g place) (inr (inl (is, p))) =
+  promise_same e (Err r) (inr (inl (is, p))) =
       inr (inl (
         is,
         record {
@@ -132,14 +130,14 @@ module _ (a b kept : List ℕ) (l : Lent) (h : SameRead (size l) a b) where
           scratch = p.scratch;
         },
       ))
-  promise_same e (Refused g place) (inr (inr p)) =
+  promise_same e (Err r) (inr (inr p)) =
       inr (inr (record {
         past = past_same e p.past;
-        first = subst (λ (check : Check). Finds check (ground_number g) place) later_same p.first;
+        first = subst (λ (check : Check). Finds check (ground_number r.reason) r.place) later_same p.first;
         outputs = p.outputs;
       }))
 
   -- two calls by such certificates answer alike and leave the same, but for which loop is shown
-  pub unread_fixed : (e e' : Left) (r r' : Trimmed) → CallTrims a kept l e r → CallTrims b kept l e' r'
-      → ((r ≡ r') × (e ≡ e')) ⊎ BothLoops (trimming a kept) l e e' (answer_of r) (answer_of r')
+  pub unread_fixed : (e e' : Left) (r r' : Answer) → CallTrims a kept l e r → CallTrims b kept l e' r'
+      → ((r ≡ r') × (e ≡ e')) ⊎ BothLoops (trimming a kept) l e e' r r'
   unread_fixed e e' r r' p q = trim_fixed a kept l e e' r r' p (promise_same e' r' q)

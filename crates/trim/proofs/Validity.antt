@@ -5,7 +5,7 @@ use mathlib.Core.Path.{◌≡◌}
 use mathlib.Core.List.{List}
 use Prim.Native.Nat.{ℕ, ◌^◌, ◌<◌}
 use lib.ListN.{length}
-use Rattle.circuit.specs.declared.refusal.Check.TheVariants.{Passed}
+use Rattle.circuit.specs.Refusal.{passed}
 use Rattle.circuit.specs.Record.{width}
 use Rattle.circuit.specs.Reading.{encode}
 use Rattle.circuit.specs.Circuit.{Circuit, circuit, record_of}
@@ -29,7 +29,7 @@ pub valid_inside : (c : Circuit) → AllValid c → Inside c
 valid_inside c valid v u h m = valid_uses (record_of c v) (length c) (valid v h) u m
 
 -- a table's records that pass are such
-pub circuit_valid : (t : List ℕ) (n : ℕ) → check_records t n ≡ Passed → AllValid (circuit t n)
+pub circuit_valid : (t : List ℕ) (n : ℕ) → check_records t n ≡ passed → AllValid (circuit t n)
 circuit_valid t n e v h = rw (circuit_length t n) (encoded_valid t n e v (rw (circuit_length t n) at h))
 
 module _ (c : Circuit) (s : ℕ → Fact) (kept : List ℕ) (valid : AllValid c)

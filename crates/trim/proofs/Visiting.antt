@@ -4,7 +4,7 @@
 use mathlib.Core.Path.{◌≡◌, refl, sym, ap, ◌∙◌, subst}
 use mathlib.Core.Logic.{◌⊎◌, inl, inr, ⊎_elim}
 use mathlib.Core.List.{List, []}
-use Prim.Native.Nat.{ℕ, ◌+◌, ◌-◌, ◌≤◌, ◌<◌}
+use Prim.Native.Nat.{ℕ, ◌+◌, ◌≤◌, ◌<◌}
 use native.Mathlib.Nat.{not-suc-le-zero}
 use native.Mathlib.Omega.{arith}
 use lib.Dec.{T}
@@ -135,9 +135,6 @@ module _ {c : Circuit} {n u w x : ℕ} {s : List ℕ} (inside : InsideOf c n) (p
 
 -- ---- the visits that grow along uses
 
-pub spread_none : (c : Circuit) (n : ℕ) (s : List ℕ) → Spread c n s s
-spread_none c n s = record { kept = kept_none (n + n) s; grows = λ v h m. m; within = λ set closed has. has }
-
 pub spread_then : {c : Circuit} {n : ℕ} {s₀ s₁ s₂ : List ℕ} → Spread c n s₀ s₁ → Spread c n s₁ s₂ → Spread c n s₀ s₂
 spread_then p q =
     record {
@@ -168,11 +165,6 @@ pub record UsesVisited (c : Circuit) (n v : ℕ) (entry : List ℕ) (waiting : �
   pub spread : Spread c n entry s
   pub done : (j : ℕ) → j < k → Visited s (get_or (uses (record_of c v)) j 0)
   pub balance : visited_count s n + waiting ≡ visited_count entry n + stacked
-
-pub no_use_visited : {c : Circuit} {n v : ℕ} {s : List ℕ} {waiting : ℕ} → Visiting c n s waiting v
-    → UsesVisited c n v s waiting s waiting 0
-no_use_visited {c} {n} {s = s} p =
-    record { visiting = p; spread = spread_none c n s; done = λ j h. absurd (not-suc-le-zero h); balance = refl }
 
 module _ {c : Circuit} {n v : ℕ} {entry : List ℕ} {waiting : ℕ} (inside : InsideOf c n) (below : v < n)
     (visited : Visited entry v) where
@@ -218,53 +210,12 @@ module _ {c : Circuit} {n v : ℕ} {entry : List ℕ} {waiting : ℕ} (inside : 
 
 -- ---- all that wait
 
--- v, taken off the stack, is left out
-module _ {c : Circuit} {n w v : ℕ} {s : List ℕ} (p : Visiting c n s w n) (some : 0 < w)
-    (is : v ≡ get_or s (n + (w - 1)) 0) where
-  pub taken_below : v < n
-  taken_below = rw is (p.stacked (w - 1) (omega arith)).0
-
-  pub taken_visited : Visited s v
-  taken_visited = rw is (p.stacked (w - 1) (omega arith)).1
-
-  pub taken_off : Visiting c n s (w - 1) v
-  taken_off =
-      record {
-        lent = p.lent;
-        few = omega (arith, p.few);
-        stacked = λ j h. p.stacked j (omega arith);
-        closed = λ u h m other. ⊎_elim
-            (λ (j, l, at). by_same j (w - 1)
-            (λ e. absurd (other (sym at ∙ ap (λ (i : ℕ). get_or s (n + i) 0) e ∙ sym is)))
-            (λ ne. inl (j, omega arith, at)))
-            (λ all. inr all)
-            (p.closed u h m (λ e. omega arith));
-      }
-
 -- what is visited and waits no more was taken off, each variable once
 pub taken_few : {c : Circuit} {n w x : ℕ} {s : List ℕ} → Visiting c n s w x
     → (w ≤ visited_count s n) × (visited_count s n ≤ n)
 taken_few {n = n} {s = s} p = (p.few, visited_most (λ v. get_or s v 0) n)
 
 -- ---- the kept variables
-
-pub none_kept : {n : ℕ} {kept s : List ℕ} → n + n ≤ length s → ((v : ℕ) → v < n → get_or s v 0 ≡ 0)
-    → KeptVisited n kept 0 s s 0
-none_kept {n} {kept} {s} lent zeros =
-    record {
-      outside = kept_none (n + n) s;
-      visiting = λ c inside. record {
-        lent = lent;
-        few = omega arith;
-        stacked = λ j h. absurd (not-suc-le-zero h);
-        closed = λ v h m other. absurd (not_visited v h m);
-      };
-      visited = λ j h. absurd (not-suc-le-zero h);
-      alone = λ v h m. absurd (not_visited v h m);
-    }
-  where
-    not_visited : (v : ℕ) → v < n → Visited s v → ⊥
-    not_visited v h m = omega (arith, zeros v h)
 
 -- a circuit that uses nothing
 nothing_used : (n : ℕ) → InsideOf [] n
@@ -295,16 +246,6 @@ module _ {n : ℕ} {kept : List ℕ} {i : ℕ} {entry s : List ℕ} {stacked u :
             (λ before. p.alone v h before)
             (more-visited.alone v h k);
       }
-
-pub all_kept : {n : ℕ} {kept : List ℕ} {i : ℕ} {entry s : List ℕ} {stacked : ℕ} → KeptVisited n kept i entry s stacked
-    → length kept ≤ i → KeptVisited n kept (length kept) entry s stacked
-all_kept p all =
-    record {
-      outside = p.outside;
-      visiting = p.visiting;
-      visited = λ j h. p.visited j (omega arith);
-      alone = p.alone;
-    }
 
 -- ---- in the end
 

@@ -1,7 +1,7 @@
 -- The records of the variables that remain, and their old numbers, written one after another: the start, a turn and the
 -- end.
 -- Assumes nothing.
-use mathlib.Core.Path.{◌≡◌, refl, sym, ap, ◌∙◌, subst}
+use mathlib.Core.Path.{◌≡◌, refl, sym, ap, ◌∙◌}
 use mathlib.Core.Bool.{Bool, true, false}
 use mathlib.Core.List.{List}
 use Prim.Native.Nat.{ℕ, ◌+◌, ◌*◌, ◌≤◌, ◌<◌}
@@ -11,7 +11,7 @@ use lib.ListN.{length, get_or}
 use Rattle.net.specs.Chosen.{chosen, place_of}
 use Rattle.net.proofs.Bools.{T_of}
 use Rattle.net.proofs.Chosen.{place_strict, place_most, chosen_place}
-use Rattle.buffer.specs.Store.{Layout, numbers, Wrote, Holds}
+use Rattle.buffer.specs.Store.{numbers, Wrote, Holds}
 use Rattle.buffer.proofs.Layouts.{numbers_laws}
 use Rattle.circuit.specs.declared.record.Fields.{Fields}
 use Rattle.circuit.specs.Circuit.{circuit}
@@ -21,17 +21,12 @@ use Rattle.trim.specs.Cells.{field_cells, survivor_fields}
 use Rattle.trim.proofs.Cells.{field_laws}
 use Rattle.trim.proofs.Numbering.{next_passed, next_failed}
 
--- what was written is known by another term
-pub wrote_as : {A : Type 0} {L : Layout A} {l l' : List ℕ} {i : ℕ} {x y : A} → x ≡ y → Wrote L l l' i x
-    → Wrote L l l' i y
-wrote_as {L = L} {l} {l'} {i} e w = subst (λ z. Wrote L l l' i z) e w
-
 -- the variables that remain in order, and their fields, by their new numbers
 abbrev pub old : List ℕ → ℕ → List ℕ → ℕ → ℕ
 old t n s j = get_or (chosen (remains (circuit t n) s) n) j 0
 
 abbrev pub old_fields : List ℕ → ℕ → List ℕ → List ℕ → ℕ → Fields
-old_fields t n certificate s j = survivor_fields t n certificate s (old t n s j)
+old_fields t n certificate s j = survivor_fields (circuit t n) certificate s (old t n s j)
 
 -- those of the first i variables that remain are written, k of them
 pub record Writing (t : List ℕ) (n : ℕ) (certificate s : List ℕ) (trimmed₀ trimmed numbers₀ numbers₁ : List ℕ)
@@ -79,7 +74,7 @@ module _ (t : List ℕ) (n : ℕ) (certificate s trimmed₀ numbers₀ : List �
         )
 
         pub one_written : {trimmed' numbers' : List ℕ}
-            → Wrote field_cells trimmed trimmed' (k * 16) (survivor_fields t n certificate s i)
+            → Wrote field_cells trimmed trimmed' (k * 16) (survivor_fields (circuit t n) certificate s i)
             → Wrote numbers numbers₁ numbers' k i
             → Writing t n certificate s trimmed₀ trimmed' numbers₀ numbers' (k + 1) (i + 1)
         one_written a c =
@@ -88,7 +83,7 @@ module _ (t : List ℕ) (n : ℕ) (certificate s trimmed₀ numbers₀ : List �
               counted = omega (arith, w.counted, next_passed p i (sym e ∙ told));
               records =
                   one_begun field_laws w.records place_below refl
-                  (ap (survivor_fields t n certificate s) (sym here))
+                  (ap (survivor_fields (circuit t n) certificate s) (sym here))
                   a;
               olds = one_begun numbers_laws w.olds place_below (sym (mul-one k)) (sym here) c;
             }

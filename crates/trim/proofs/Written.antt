@@ -112,7 +112,7 @@ module _ (t certificate kept : List ℕ) (n : ℕ) where
     -- the trimmed circuit's records
     pub records_written : {entry exit : List ℕ} → n * 16 ≤ length entry
         → Holds field_cells (place_of (remains (circuit t n) s) n)
-        (λ j. survivor_fields t n certificate s (get_or (chosen (remains (circuit t n) s) n) j 0)) entry exit
+        (λ j. survivor_fields (circuit t n) certificate s (get_or (chosen (remains (circuit t n) s) n) j 0)) entry exit
         → exit ≡ flat_map record_bytes (trimmed c kept) ++ drop (length (survivors c kept) * 16) entry
     unfolding trimmed survivors new_number
     records_written {entry} {exit} lent p =

@@ -6,7 +6,7 @@ use Rattle.buffer.specs.Store.{Layout}
 use Rattle.circuit.specs.declared.record.Fields.{Fields}
 use Rattle.circuit.specs.Record.{renumber}
 use Rattle.circuit.specs.Reading.{fields_at, encode, field_bytes}
-use Rattle.circuit.specs.Circuit.{circuit, record_of}
+use Rattle.circuit.specs.Circuit.{Circuit, record_of}
 use Rattle.fact.specs.Fact.{fact_at}
 use Rattle.trim.specs.Trimmed.{replaced}
 use Rattle.trim.specs.Ready.{remains}
@@ -37,7 +37,6 @@ renumber_fields new f =
     }
 
 -- the fields of variable v's record in the trimmed table, where the scratch says which variables remain
-abbrev pub survivor_fields : List ℕ → ℕ → List ℕ → List ℕ → ℕ → Fields
-survivor_fields t n certificate s v =
-    encode
-    (renumber (place_of (remains (circuit t n) s)) (record_of (replaced (circuit t n) (fact_at certificate)) v))
+abbrev pub survivor_fields : Circuit → List ℕ → List ℕ → ℕ → Fields
+survivor_fields c certificate s v =
+    encode (renumber (place_of (remains c s)) (record_of (replaced c (fact_at certificate)) v))

@@ -2,21 +2,19 @@
 -- Assumes nothing.
 use Rattle.std.specs.Prelude.{Bool, not, ◌&&◌, ◌||◌, List, [], ◌∷◌, ℕ, zero, suc, ◌+◌, ◌*◌, ◌/◌, ◌^◌, eqb, leb, ltb, length, get_or}
 use Rattle.circuit.specs.declared.refusal.Ground.TheVariants.{NoSuchKept, TrimmedShort, BadCertificate}
-use Rattle.circuit.specs.declared.refusal.Check.{Check}
-use Rattle.circuit.specs.declared.refusal.Check.TheVariants.{Passed}
+use Rattle.circuit.specs.Refusal.{Check, passed, refuse, ◌then◌}
 use Rattle.circuit.specs.Number.{u32_at}
-use Rattle.circuit.specs.Refusal.{refuse, ◌then◌}
 use Rattle.circuit.specs.Record.{width}
 use Rattle.circuit.specs.Circuit.{Circuit, record_of}
 
 -- ground 20, of the kept numbers from number i on: the first that is not below the number of records
 unfoldable pub check_kept : ℕ → List ℕ → ℕ → Check
-check_kept n [] i = Passed
+check_kept n [] i = passed
 check_kept n (v ∷ vs) i = refuse NoSuchKept i (leb n v) (check_kept n vs (i + 1))
 
 -- ground 21, of the table's length in bytes and of what is lent for the trimmed table and for the list of old numbers
 abbrev pub check_room : ℕ → ℕ → ℕ → Check
-check_room bytes trimmed numbers = refuse TrimmedShort 0 (ltb trimmed bytes || ltb numbers (bytes / 16)) Passed
+check_room bytes trimmed numbers = refuse TrimmedShort 0 (ltb trimmed bytes || ltb numbers (bytes / 16)) passed
 
 -- a fact byte outside 1 to 3, or an always number that does not fit the width
 abbrev pub bad_fact : ℕ → ℕ → ℕ → Bool
@@ -24,7 +22,7 @@ bad_fact w byte n = eqb byte 0 || ltb 3 byte || (eqb byte 1 && leb (2 ^ w) n)
 
 -- ground 22, of the facts of `count` variables from variable i on
 unfoldable pub check_facts_from : Circuit → List ℕ → ℕ → ℕ → Check
-check_facts_from c cells zero i = Passed
+check_facts_from c cells zero i = passed
 check_facts_from c cells (suc count) i =
     refuse BadCertificate i (bad_fact (width (record_of c i)) (get_or cells (i * 8) 0) (u32_at cells (i * 8 + 4)))
     (check_facts_from c cells count (i + 1))

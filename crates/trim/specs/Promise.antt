@@ -3,16 +3,12 @@
 -- Assumes nothing.
 use Rattle.std.specs.Prelude.{◌≡◌, refl, ℕ, ◌*◌, length, drop}
 use mathlib.Core.List.{List, [], ◌∷◌, ◌++◌, flat_map}
-use Rattle.circuit.specs.declared.refusal.Check.TheVariants.{Passed}
-use Rattle.circuit.specs.Refusal.{ground_number, Finds}
 use Rattle.circuit.specs.Reading.{record_bytes}
 use Rattle.circuit.specs.Circuit.{Circuit}
 use Rattle.circuit.specs.Checks.{check_records}
 use Rattle.fact.specs.Fact.{fact_at}
-use Rattle.call.specs.Call.{Lent, Left, Answer, accepted, refused, Call, output_of, circuit_of, scratch_cleared, Promises}
+use Rattle.call.specs.Call.{Lent, Left, Answer, Call, output_of, circuit_of, Promises}
 use Rattle.call.specs.Asks.{found_of}
-use Rattle.trim.specs.declared.Trimmed.{Trimmed}
-use Rattle.trim.specs.declared.Trimmed.TheVariants.{Accepted, Refused}
 use Rattle.trim.specs.Trimmed.{replaced, survivors, trimmed}
 use Rattle.trim.specs.Order.{check_trim}
 
@@ -60,25 +56,9 @@ module _ (certificate kept : List ℕ) where
         Accepts = Trims;
       }
 
--- its answer as every call has one
-abbrev pub answer_of : Trimmed → Answer
-answer_of (Accepted k) = accepted k
-answer_of (Refused g place) = refused g place
-
--- what is promised past ground 11, of a scratch whose part is 0: it is so again, or as it was
-abbrev pub TrimsPast : List ℕ → List ℕ → Lent → Left → Answer → Type 0
-TrimsPast certificate kept l e (accepted k) =
-    ((trimming certificate kept).later l ≡ Passed)
-    × Trims certificate kept l e.outputs k
-    × (e.scratch ≡ scratch_cleared (trimming certificate kept) l)
-TrimsPast certificate kept l e (refused g place) =
-    Finds ((trimming certificate kept).later l) (ground_number g) place
-    × (e.outputs ≡ l.outputs)
-    × (e.scratch ≡ l.scratch)
-
 -- the promise: what holds of the buffers and the answer
-abbrev pub CallTrims : List ℕ → List ℕ → Lent → Left → Trimmed → Type 0
-CallTrims certificate kept l e r = Promises (trimming certificate kept) l e (answer_of r)
+abbrev pub CallTrims : List ℕ → List ℕ → Lent → Left → Answer → Type 0
+CallTrims certificate kept l e r = Promises (trimming certificate kept) l e r
 
 -- what it asks before ground 11, computed: of a table of one record four numbers of scratch, one less is refused, and
 -- nothing of an output, which ground 3 would ask for

@@ -5,50 +5,54 @@ ghost use Rattle.net.specs.Chosen.{chosen, place_of};
 ghost use Rattle.buffer.specs.Kept.{Filled};
 ghost use Rattle.buffer.specs.Store as store;
 ghost use Rattle.circuit.specs.declared.record.Record.TheVariants.{Constant};
-ghost use Rattle.circuit.specs.Reading.{encode};
-ghost use Rattle.circuit.specs.Circuit.{circuit};
-ghost use Rattle.circuit.specs.Checks.{Checked};
+ghost use Rattle.circuit.specs.Reading.{encode, field_bytes};
+ghost use Rattle.circuit.specs.Tables.{circuit_of};
 ghost use Rattle.trim.specs.Ready.{remains, Numbered};
 ghost use Rattle.trim.specs.Cells.{field_cells, Below, renumber_fields, survivor_fields};
 
 use crate::ALWAYS;
-use circuit::number::{u32_at, wide};
+use circuit::number::u32_at;
 use circuit::record::{Fields, fields_at};
-use circuit::table::kind_at;
+use circuit::table::{Table, kind_at};
 
 // Whether v remains: it is an input, or its flag in the scratch says that it is visited.
-fn remains_at(t: &[u8], s: &[u16], v: usize) -> bool
-    requires { (v * 16 + 16 ≤ length t.now) × (v < length s.now) }
-    ensures { (n : ℕ) → v < n → result ≡ remains (circuit t.now n) s.now v }
+fn remains_at(table: &Table, s: &[u16], v: usize) -> bool
+    requires { (v < table.now.records) × (v < length s.now) }
+    ensures { result ≡ remains (circuit_of table.now) s.now v }
 {
-    if kind_at(t, v) == 0 {
-        return true;
-    }
-    if s[v] == 0 {
-        return false;
-    }
-    true
+    kind_at(table.bytes, v) == 0 || s[v] != 0
 }
 
 // Writes the new number of each variable behind the flags. How many remain.
-pub fn number_survivors(t: &[u8], n: usize, s: &mut [u16]) -> usize
-    requires checked { Checked t.now n }
-    requires n_in_bounds { n + n ≤ length s.old }
-    ensures value { result ≡ place_of (remains (circuit t.now n) s.old) n }
-    ensures filled { Filled n n (place_of (remains (circuit t.now n) s.old))
+pub fn number_survivors(table: &Table, s: &mut [u16]) -> usize
+    requires { table.now.records + table.now.records ≤ length s.old }
+    ensures value { result ≡ place_of (remains (circuit_of table.now) s.old) table.now.records }
+    ensures filled { Filled table.now.records table.now.records (place_of (remains (circuit_of table.now) s.old))
         s.old s.new }
 {
+    let n = table.records;
     let mut count: usize = 0;
-    let mut i: usize = 0;
-    while i < n {
-        let v = i;
-        i += 1;
+    for v in 0..n {
         s[n + v] = count as u16;
-        if remains_at(t, s, v) {
+        if remains_at(table, s, v) {
             count += 1;
         }
     }
     count
+}
+
+// The 16 bytes of fields.
+fn field_bytes(f: Fields) -> [u8; 16]
+    ensures { result ≡ field_bytes f }
+{
+    let [a0, a1] = f.a.to_le_bytes();
+    let [b0, b1] = f.b.to_le_bytes();
+    let [c0, c1] = f.c.to_le_bytes();
+    let [d0, d1] = f.bytes10.to_le_bytes();
+    let [v0, v1, v2, v3] = f.value.to_le_bytes();
+    [
+        f.kind, f.width, f.code, f.byte3, a0, a1, b0, b1, c0, c1, d0, d1, v0, v1, v2, v3,
+    ]
 }
 
 // The 16 bytes of fields, written from a place on.
@@ -56,22 +60,10 @@ fn write_fields(out: &mut [u8], at: usize, f: Fields)
     requires { at + 16 ≤ length out.old }
     ensures { store.Wrote field_cells out.old out.new at f }
 {
-    out[at] = f.kind;
-    out[at + 1] = f.width;
-    out[at + 2] = f.code;
-    out[at + 3] = f.byte3;
-    out[at + 4] = (f.a % 256) as u8;
-    out[at + 5] = (f.a / 256 % 256) as u8;
-    out[at + 6] = (f.b % 256) as u8;
-    out[at + 7] = (f.b / 256 % 256) as u8;
-    out[at + 8] = (f.c % 256) as u8;
-    out[at + 9] = (f.c / 256 % 256) as u8;
-    out[at + 10] = (f.bytes10 % 256) as u8;
-    out[at + 11] = (f.bytes10 / 256 % 256) as u8;
-    out[at + 12] = (f.value % 256) as u8;
-    out[at + 13] = (f.value / 256 % 256) as u8;
-    out[at + 14] = (f.value / 65536 % 256) as u8;
-    out[at + 15] = (f.value / 16777216 % 256) as u8;
+    // `copy_from_slice` would put the bytes in memory first; of this loop only the wide stores are left.
+    for (i, byte) in field_bytes(f).iter().enumerate() {
+        out[at + i] = *byte;
+    }
 }
 
 // The fields of a constant.
@@ -103,9 +95,9 @@ fn renumbered(f: Fields, n: usize, s: &[u16]) -> Fields
         width: f.width,
         code: f.code,
         byte3: f.byte3,
-        a: s[n + wide(f.a)],
-        b: s[n + wide(f.b)],
-        c: s[n + wide(f.c)],
+        a: s[n + usize::from(f.a)],
+        b: s[n + usize::from(f.b)],
+        c: s[n + usize::from(f.c)],
         bytes10: f.bytes10,
         value: f.value,
     }
@@ -115,30 +107,25 @@ fn renumbered(f: Fields, n: usize, s: &[u16]) -> Fields
 fn becomes_constant(kind: u8, byte: u8) -> bool
     ensures { result ≡ (not (eqb kind 0) && eqb byte 1) }
 {
-    if kind == 0 {
-        return false;
-    }
-    byte == ALWAYS
+    kind != 0 && byte == ALWAYS
 }
 
 // The fields of variable v's record in the trimmed table.
-fn trimmed_fields(t: &[u8], n: usize, certificate: &[u8], s: &[u16], v: usize) -> Fields
-    requires checked { Checked t.now n }
-    requires numbered { Numbered t.now n s.now }
-    requires n_in_bounds { (n * 8 ≤ length certificate.now) × (v < n) }
-    ensures { result ≡ survivor_fields t.now n certificate.now s.now v }
+fn trimmed_fields(table: &Table, certificate: &[u8], s: &[u16], v: usize) -> Fields
+    requires numbered { Numbered (circuit_of table.now) table.now.records s.now }
+    requires v_in_bounds { (table.now.records * 8 ≤ length certificate.now) × (v < table.now.records) }
+    ensures { result ≡ survivor_fields (circuit_of table.now) certificate.now s.now v }
 {
-    let f = fields_at(t, v * 16);
+    let f = fields_at(table.bytes, v * 16);
     if becomes_constant(f.kind, certificate[v * 8]) {
         return constant_fields(f.width, u32_at(certificate, v * 8 + 4));
     }
-    renumbered(f, n, s)
+    renumbered(f, table.records, s)
 }
 
 // Variable v's record and its old number, written as number k of both outputs.
 fn write_survivor(
-    t: &[u8],
-    n: usize,
+    table: &Table,
     certificate: &[u8],
     s: &[u16],
     v: usize,
@@ -146,45 +133,42 @@ fn write_survivor(
     trimmed: &mut [u8],
     numbers: &mut [u16],
 )
-    requires checked { Checked t.now n }
-    requires numbered { Numbered t.now n s.now }
-    requires n_in_bounds { (n * 8 ≤ length certificate.now) × (v < n) }
+    requires numbered { Numbered (circuit_of table.now) table.now.records s.now }
+    requires v_in_bounds { (table.now.records * 8 ≤ length certificate.now) × (v < table.now.records) }
     requires k_in_bounds { (k * 16 + 16 ≤ length trimmed.old) × (k < length numbers.old) }
-    ensures wrote { store.Wrote field_cells trimmed.old trimmed.new (k * 16)
-        (survivor_fields t.now n certificate.now s.now v) }
-    ensures wrote_2 { store.Wrote store.numbers numbers.old numbers.new k v }
+    ensures record_written { store.Wrote field_cells trimmed.old trimmed.new (k * 16)
+        (survivor_fields (circuit_of table.now) certificate.now s.now v) }
+    ensures number_written { store.Wrote store.numbers numbers.old numbers.new k v }
 {
-    write_fields(trimmed, k * 16, trimmed_fields(t, n, certificate, s, v));
+    write_fields(trimmed, k * 16, trimmed_fields(table, certificate, s, v));
     numbers[k] = v as u16;
 }
 
 // Writes the records of the variables that remain, in order, and their old numbers.
 pub fn write_survivors(
-    t: &[u8],
-    n: usize,
+    table: &Table,
     certificate: &[u8],
     s: &[u16],
     trimmed: &mut [u8],
     numbers: &mut [u16],
 )
-    requires checked { Checked t.now n }
-    requires numbered { Numbered t.now n s.now }
-    requires n_in_bounds { (n * 8 ≤ length certificate.now) × (n * 16 ≤ length trimmed.old) × (n ≤ length numbers.old) }
-    ensures holds { store.Holds field_cells (place_of (remains (circuit t.now n) s.now) n)
-        (λ j. survivor_fields t.now n certificate.now s.now
-        (get_or (chosen (remains (circuit t.now n) s.now) n) j 0))
+    requires numbered { Numbered (circuit_of table.now) table.now.records s.now }
+    requires records_in_bounds { (table.now.records * 8 ≤ length certificate.now)
+        × (table.now.records * 16 ≤ length trimmed.old) × (table.now.records ≤ length numbers.old) }
+    ensures records_written { store.Holds field_cells
+        (place_of (remains (circuit_of table.now) s.now) table.now.records)
+        (λ j. survivor_fields (circuit_of table.now) certificate.now s.now
+        (get_or (chosen (remains (circuit_of table.now) s.now) table.now.records) j 0))
         trimmed.old trimmed.new }
-    ensures holds_2 { store.Holds store.numbers (place_of (remains (circuit t.now n) s.now) n)
-        (λ j. get_or (chosen (remains (circuit t.now n) s.now) n) j 0)
+    ensures numbers_written { store.Holds store.numbers
+        (place_of (remains (circuit_of table.now) s.now) table.now.records)
+        (λ j. get_or (chosen (remains (circuit_of table.now) s.now) table.now.records) j 0)
         numbers.old numbers.new }
 {
     let mut k: usize = 0;
-    let mut i: usize = 0;
-    while i < n {
-        let v = i;
-        i += 1;
-        if remains_at(t, s, v) {
-            write_survivor(t, n, certificate, s, v, k, trimmed, numbers);
+    for v in 0..table.records {
+        if remains_at(table, s, v) {
+            write_survivor(table, certificate, s, v, k, trimmed, numbers);
             k += 1;
         }
     }

@@ -1,10 +1,10 @@
 // Trims a table by its certificate: trim_table [--numbers] TABLE CERTIFICATE VARIABLE... Prints the trimmed table's
 // bytes, or with --numbers the old numbers of its records, one a line; or why it is refused. Only reading and writing
 // is done here; the answer and its text come from the proved library `text`.
+// What the programs have alike stands in each: a library may not name std's files, arguments and errors (.ci/run).
 #![tactic(auto)]
 
-ghost use Rattle.trim_table.specs.Contents.{Within};
-ghost use Rattle.std.specs.Prelude.{◌<◌, ◌≤◌, length, take, IfOk};
+ghost use Rattle.std.specs.Prelude.{◌<◌, ◌≤◌, length, take, IfOk, IfSome};
 ghost use Rattle.std.specs.Io.KnownBytes.{Consumes, IsAtEnd};
 
 use std::env::{Env, FillError};
@@ -12,22 +12,8 @@ use std::fs::File;
 use std::io;
 use std::io::{Error, ErrorKind, Read, Write};
 use std::rt::Files;
-use text::word::{ReadNumber, read_number};
-use text::{Report, numbers_text, trim_bytes};
-
-// What was read: so many bytes of a file, or so many variables; or nothing, since it cannot be read, which was said.
-#[derive(Clone, Copy)]
-enum Contents {
-    Read(usize),
-    Unreadable,
-}
-
-// A kept variable; or the word is none, which was said.
-#[derive(Clone, Copy)]
-enum Variable {
-    Number(u16),
-    Unread,
-}
+use text::word::{NumberError, read_number};
+use text::{numbers_text, trim_bytes};
 
 // Whether there is an argument i. Argument 0 is the program's name.
 fn has_argument(rt: &impl Env, i: usize) -> bool {
@@ -45,6 +31,8 @@ fn asks_for_numbers(rt: &impl Env) -> bool {
 
 // Reads an open file into a buffer with room for one byte too many, until that is full or the file ends: one that is
 // longer is refused alike. How many bytes of the buffer were read.
+// (std's `read_exact` does not tell how much of a shorter one was read.)
+#[tactic(auto, using(text::proofs::Reading::read_more))]
 fn read_open<R: Read>(file: &mut R, buf: &mut [u8]) -> io::Result<usize>
     ensures within { IfOk result (λ n. n ≤ length buf.new) }
     ensures read { IfOk result (λ n. Consumes (R.remaining file.old) (R.remaining file.new) (take n buf.new)) }
@@ -84,18 +72,23 @@ fn fail(errors: &impl Print, name: &[u8], why: Error) {
     let _ = println!(errors; ": {said}");
 }
 
-// Reads the file that argument i names, or says why it cannot be read.
-fn read_file(rt: &(impl Env + Files), errors: &impl Print, i: usize, buf: &mut [u8]) -> Contents
-    ensures { Within result (length buf.new) }
+// Reads the file that argument i names, or says why it cannot be read. How many bytes of the buffer were read.
+fn read_file(
+    rt: &(impl Env + Files),
+    errors: &impl Print,
+    i: usize,
+    buf: &mut [u8],
+) -> Option<usize>
+    ensures { IfSome result (λ n. n ≤ length buf.new) }
 {
     let mut space = [0u8; 4096];
     let n = rt.arg(i, &mut space).unwrap_or(0);
     let path = &space[..n];
     match read_path(rt, path, buf) {
-        Ok(bytes) => Contents::Read(bytes),
+        Ok(bytes) => Some(bytes),
         Err(why) => {
             fail(errors, path, why);
-            Contents::Unreadable
+            None
         }
     }
 }
@@ -106,35 +99,30 @@ fn complain(errors: &impl Print, place: usize, what: &str) {
 }
 
 // The variable that argument i is, or a complaint.
-fn read_variable(rt: &impl Env, errors: &impl Print, i: usize, place: usize) -> Variable {
+fn read_variable(rt: &impl Env, errors: &impl Print, i: usize, place: usize) -> Option<u16> {
     let mut space = [0u8; 4096];
     let Ok(n) = rt.arg(i, &mut space) else {
         complain(errors, place, "has more than 4096 bytes");
-        return Variable::Unread;
+        return None;
     };
-    let word = read_number(&space[..n]);
-    match word {
-        ReadNumber::Number(x) => {
-            if 65535 < x {
-                complain(errors, place, "needs more than 16 bits");
-                return Variable::Unread;
-            }
-            Variable::Number(x as u16)
-        }
-        ReadNumber::NoNumber => {
-            complain(errors, place, "is no number");
-            Variable::Unread
-        }
-        ReadNumber::TooWide => {
-            complain(errors, place, "needs more than 16 bits");
-            Variable::Unread
-        }
-    }
+    let number = read_number(&space[..n]);
+    let fault = match number.and_then(|n| u16::try_from(n).map_err(|_| NumberError::TooWide)) {
+        Ok(variable) => return Some(variable),
+        Err(NumberError::NoNumber) => "is no number",
+        Err(NumberError::TooWide) => "needs more than 16 bits",
+    };
+    complain(errors, place, fault);
+    None
 }
 
-// Reads each argument from one on as a kept variable, or says why it cannot be done.
-fn read_variables(rt: &impl Env, errors: &impl Print, first: usize, kept: &mut [u16]) -> Contents
-    ensures { Within result (length kept.new) }
+// Reads each argument from one on as a kept variable, or says why it cannot be done. How many there are.
+fn read_variables(
+    rt: &impl Env,
+    errors: &impl Print,
+    first: usize,
+    kept: &mut [u16],
+) -> Option<usize>
+    ensures { IfSome result (λ n. n ≤ length kept.new) }
 {
     let mut place: usize = 0;
     for i in first..usize::MAX {
@@ -143,16 +131,12 @@ fn read_variables(rt: &impl Env, errors: &impl Print, first: usize, kept: &mut [
         }
         if kept.len() <= place {
             let _ = println!(errors; "trim: more than 65536 variables");
-            return Contents::Unreadable;
+            return None;
         }
-        let variable = read_variable(rt, errors, i, place);
-        let Variable::Number(x) = variable else {
-            return Contents::Unreadable;
-        };
-        kept[place] = x;
+        kept[place] = read_variable(rt, errors, i, place)?;
         place += 1;
     }
-    Contents::Read(place)
+    Some(place)
 }
 
 // Prints an answer.
@@ -194,14 +178,14 @@ fn print_trimmed(
         &mut line,
     );
     match report {
-        Report::Bytes(count) => {
+        Ok(count) => {
             if in_numbers {
                 print_numbers(output, errors, &numbers, count / 16);
             } else {
                 print(output, errors, &trimmed[..count]);
             }
         }
-        Report::Line(from) => {
+        Err(from) => {
             let _ = errors.write_all(&line[from..]);
         }
     }
@@ -217,18 +201,15 @@ fn main(rt: HostRuntime) {
         return;
     }
     let mut table = [0u8; 65537];
-    let table_read = read_file(&rt, &errors, first, &mut table);
-    let Contents::Read(t) = table_read else {
+    let Some(t) = read_file(&rt, &errors, first, &mut table) else {
         return;
     };
     let mut certificate = [0u8; 32769];
-    let certificate_read = read_file(&rt, &errors, first + 1, &mut certificate);
-    let Contents::Read(c) = certificate_read else {
+    let Some(c) = read_file(&rt, &errors, first + 1, &mut certificate) else {
         return;
     };
     let mut kept = [0u16; 65536];
-    let kept_read = read_variables(&rt, &errors, first + 2, &mut kept);
-    let Contents::Read(k) = kept_read else {
+    let Some(k) = read_variables(&rt, &errors, first + 2, &mut kept) else {
         return;
     };
     print_trimmed(

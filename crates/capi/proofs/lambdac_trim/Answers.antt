@@ -1,17 +1,21 @@
 -- The trimming call's promise, of the answer that is packed.
 -- Assumes nothing.
-use Rattle.trim.specs.Promise.{answer_of}
+use Rattle.std.proofs.Common.{◌≡◌, ap, ◌∙◌, rules}
+use Rattle.capi.specs.Packed.{packed, cut}
 use Rattle.capi.proofs.Packed.{trimmed_low}
 use Rattle.capi.proofs.lambdac_trim.Goals as goal
 
-pub pack_trimmed-requires : goal.pack_trimmed-requires
-pack_trimmed-requires c = trimmed_low _ _ _ _ (answer_of c.trim.result) c.trim.ensures
+pub pack-requires : goal.pack-requires
+pack-requires c =
+    let same : c.map_err.result ≡ cut c.trim-answer.result = search rules in
+    rw same (trimmed_low _ _ _ _ c.trim-answer.result c.trim-answer.ensures)
 
 pub returns : goal.returns
 returns c =
+    let same : c.map_err.result ≡ cut c.trim-answer.result = search rules in
     record {
-      answer = answer_of c.trim.result;
-      low = trimmed_low _ _ _ _ (answer_of c.trim.result) c.trim.ensures;
-      is = c.pack_trimmed.ensures;
-      promises = c.trim.ensures;
+      answer = c.trim-answer.result;
+      low = trimmed_low _ _ _ _ c.trim-answer.result c.trim-answer.ensures;
+      is = c.pack.ensures ∙ ap packed same;
+      promises = c.trim-answer.ensures;
     }

@@ -9,13 +9,13 @@ pub depth-steps-requires : goal.depth-steps-requires
 depth-steps-requires c =
     let f = c.search-end.ensures.found in
     let stand = f.searching.facts_stand in
-    (stand.lent, stand.table.small, found_room f, found_falls f)
+    (stand.lent, c.args.table.now.checked.small, found_room f, found_falls f)
 
 pub write_row-requires-clause-room_in_bounds : goal.write_row-requires-clause-room_in_bounds
 write_row-requires-clause-room_in_bounds c =
     let f = c.search-end.ensures.found in
     let stand = f.searching.facts_stand in
-    (stand.lent, stand.table.small, found_room f, found_falls f)
+    (stand.lent, c.args.table.now.checked.small, found_room f, found_falls f)
 
 pub write_row-requires-clause-depth : goal.write_row-requires-clause-depth
 write_row-requires-clause-depth c =
@@ -25,7 +25,7 @@ write_row-requires-clause-depth c =
 pub overflow_add-result : goal.overflow_add-result
 overflow_add-result c =
     let f = c.search-end.ensures.found in
-    omega (arith, c.depth-steps.ensures.1, found_room f, f.searching.facts_stand.table.small)
+    omega (arith, c.depth-steps.ensures.1, found_room f, c.args.table.now.checked.small)
 
 pub returns-clause-writes_path : goal.returns-clause-writes_path
 returns-clause-writes_path c =

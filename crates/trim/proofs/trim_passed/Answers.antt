@@ -4,7 +4,7 @@ use Rattle.std.proofs.Common.{ℕ, ◌+◌, ◌*◌, drop, sym, ap, ◌∙◌, a
 use mathlib.Core.List.{◌++◌, flat_map}
 use Rattle.buffer.proofs.Filled.{part_cleared}
 use Rattle.circuit.specs.Reading.{record_bytes}
-use Rattle.circuit.specs.Circuit.{circuit}
+use Rattle.circuit.specs.Tables.{circuit_of}
 use Rattle.fact.specs.Fact.{fact_at}
 use Rattle.trim.specs.Trimmed as definition
 use Rattle.trim.specs.Promise.{room}
@@ -20,36 +20,36 @@ pub returns-clause-value : goal.returns-clause-value
 returns-clause-value c =
     let a = c.args in
     c.number_survivors-count.ensures.value
-    ∙ count_is a.t.now a.certificate.now a.kept.now a.n c.visit_reached.ensures.visits_reached
+    ∙ count_is _ a.certificate.now a.kept.now _ c.visit_reached.ensures.visits_reached
 
 pub returns-clause-trimmed_after : goal.returns-clause-trimmed_after
 returns-clause-trimmed_after c =
     let a = c.args in
-    let called = definition.replaced (circuit a.t.now a.n) (fact_at a.certificate.now) in
+    let called = definition.replaced (circuit_of a.table.now) (fact_at a.certificate.now) in
     let visits = c.visit_reached.ensures.visits_reached in
-    let after = visits_stay a.t.now a.certificate.now a.kept.now a.n c.number_survivors-count.ensures.filled visits in
+    let after = visits_stay _ a.certificate.now a.kept.now _ c.number_survivors-count.ensures.filled visits in
     let count = c.number_survivors-count.ensures.value
-    ∙ count_is a.t.now a.certificate.now a.kept.now a.n visits in
-    records_written a.t.now a.certificate.now a.kept.now a.n after c.requires.trimmable.trimmed_lent
-    c.write_survivors.ensures.holds
+    ∙ count_is _ a.certificate.now a.kept.now _ visits in
+    records_written _ a.certificate.now a.kept.now _ after c.requires.trimmable.trimmed_lent
+    c.write_survivors.ensures.records_written
     ∙ ap (λ (k : ℕ). flat_map record_bytes (definition.trimmed called a.kept.now)
     ++ drop (k * 16) a.trimmed.now) (sym count)
 
 pub returns-clause-numbers_after : goal.returns-clause-numbers_after
 returns-clause-numbers_after c =
     let a = c.args in
-    let called = definition.replaced (circuit a.t.now a.n) (fact_at a.certificate.now) in
+    let called = definition.replaced (circuit_of a.table.now) (fact_at a.certificate.now) in
     let visits = c.visit_reached.ensures.visits_reached in
-    let after = visits_stay a.t.now a.certificate.now a.kept.now a.n c.number_survivors-count.ensures.filled visits in
+    let after = visits_stay _ a.certificate.now a.kept.now _ c.number_survivors-count.ensures.filled visits in
     let count = c.number_survivors-count.ensures.value
-    ∙ count_is a.t.now a.certificate.now a.kept.now a.n visits in
-    olds_written a.t.now a.certificate.now a.kept.now a.n after c.requires.trimmable.numbers_lent
-    c.write_survivors.ensures.holds_2
+    ∙ count_is _ a.certificate.now a.kept.now _ visits in
+    olds_written _ a.certificate.now a.kept.now _ after c.requires.trimmable.numbers_lent
+    c.write_survivors.ensures.numbers_written
     ∙ ap (λ (k : ℕ). definition.survivors called a.kept.now ++ drop k a.numbers.now) (sym count)
 
 pub returns-clause-scratch_after : goal.returns-clause-scratch_after
 returns-clause-scratch_after c =
     let a = c.args in
-    part_cleared 0 (a.n + a.n) (a.n * room) a.scratch.now _ _
+    part_cleared 0 (a.table.now.records + a.table.now.records) (a.table.now.records * room) a.scratch.now _ _
     (numbers_outside c.visit_reached.ensures.kept c.number_survivors-count.ensures.filled) (omega arith)
     c.requires.room_in_bounds c.clear.ensures

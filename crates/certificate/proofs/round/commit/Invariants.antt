@@ -1,18 +1,13 @@
--- The loop's invariant: the first j registers have their staged facts. The measure is what is left of them.
+-- The loop's invariant: the first j registers have their staged facts.
 -- Assumes nothing.
-use Rattle.std.proofs.Common.{◌-◌, ◌≤◌}
 use Rattle.buffer.specs.Store.{Moves}
-use Rattle.circuit.specs.Circuit.{circuit}
-use Rattle.fact.specs.Cells.{facts}
 use Rattle.fact.specs.Rule.{rule}
+use Rattle.engine.specs.Plans.{circuit_of}
 use Rattle.engine.proofs.Together.{together}
 use Rattle.certificate.proofs.round.commit.Given as goal
 
 abbrev pub invariant-loop-j : goal.invariant-loop-j
-invariant-loop-j l = record {
-  most : l.j ≤ l.registers;
-  moves : Moves facts l.n (together (circuit l.t l.n) (rule (circuit l.t l.n)) l.j) l.fn.cells l.cells;
-}
-
-abbrev pub decreases-loop-j : goal.decreases-loop-j
-decreases-loop-j l = l.registers - l.j
+invariant-loop-j g l =
+    let S = g.S.Store in
+    let C = circuit_of l.plan in
+    Moves S.layout l.plan.table.records (together C (rule C) l.j) (S.as_numbers l.fn.cells) (S.as_numbers l.cells)

@@ -1,48 +1,49 @@
--- Each turn stages one register more.
+-- Each register's next fact is staged, and compared with the one it has.
 -- Assumes nothing.
-use Rattle.std.proofs.Common.{◌≡◌, not, refl, ap, ap₂, ◌∙◌, arith}
+use Rattle.std.proofs.Common.{◌≡◌, not, ap, ap₂, ◌∙◌, arith, rules}
 use Rattle.buffer.proofs.Layouts.{numbers_laws, wrote_number}
-use Rattle.circuit.specs.Circuit.{circuit}
 use Rattle.fact.specs.declared.Fact.{Fact}
-use Rattle.fact.specs.Fact.{same, fact_byte, fact_at}
+use Rattle.fact.specs.Fact.{same, fact_byte}
 use Rattle.fact.specs.Rule.{rule}
+use Rattle.engine.specs.Plans.{circuit_of}
 use Rattle.engine.specs.Registers.{next_of, stays_at}
-use Rattle.engine.proofs.Standing.{register_at, register_below, register_evaluable}
-use Rattle.engine.proofs.Passes.{none_staged, one_staged}
+use Rattle.engine.specs.Rules.{read_off}
+use Rattle.engine.proofs.Standing.{placed, plan_register_at, plan_register_below, plan_register}
+use Rattle.engine.proofs.Passes.{none_begun, one_begun}
 use Rattle.engine.proofs.Rounds.{changes_none, changes_more}
 use Rattle.certificate.proofs.round.stage.Goals as goal
 
 pub loop-j-init : goal.loop-j-init
-loop-j-init c = record { most = omega arith; staged = none_staged c.requires.ready; changed = changes_none _ }
+loop-j-init g c = record { staged = none_begun _; changes = changes_none _ }
 
-pub register_fact-f-requires-clause-evaluable : goal.register_fact-f-requires-clause-evaluable
-register_fact-f-requires-clause-evaluable c =
-    register_evaluable c.loop-j.invariant.staged.ready c.loop-j-test.true c.wide-v.ensures.0 refl
+pub register_fact-fact-requires : goal.register_fact-fact-requires
+register_fact-fact-requires g c =
+    plan_register c.args.plan.now c.loop-j-test.true c.from-v.ensures c.requires.lent
 
 pub load-requires : goal.load-requires
-load-requires c =
-    let r = c.loop-j.invariant.staged.ready in
-    omega (arith, register_below r c.loop-j-test.true c.wide-v.ensures.0, r.wired.store.lent)
+load-requires g c =
+    let p = c.args.plan.now in
+    placed g.S.Store.layout.each p.table.records c.from-v.result (plan_register_below p c.loop-j-test.true c.from-v.ensures)
+    c.requires.lent
 
 pub loop-j-preserved : goal.loop-j-preserved
-loop-j-preserved c =
-    let x = c.args in
-    let l = c.loop-j in
-    let r = l.invariant.staged.ready in
-    let C = circuit x.t.now x.n in
-    let s = fact_at x.cells.now in
-    let v = register_at r c.loop-j-test.true c.wide-v.ensures.0 in
-    let fact : c.register_fact-f.result ≡ next_of C (rule C) s l.j =
-    c.register_fact-f.ensures ∙ ap (rule C s) v in
+unfolding same
+loop-j-preserved g c =
+    let p = c.args.plan.now in
+    let h = c.loop-j-test.true in
+    let e = plan_register_at p h c.from-v.ensures in
+    let C = circuit_of p in
+    let s = read_off g.S.Store.layout (g.S.Store.as_numbers c.args.cells.now) in
+    let fact : c.register_fact-fact.result ≡ next_of C (rule C) s c.loop-j.j =
+    c.register_fact-fact.ensures ∙ ap (rule C s) e in
     record {
-      most = omega arith;
       staged =
-          one_staged numbers_laws l.invariant.staged (omega arith) (omega arith) (omega (arith, r.fits))
-          (c.wide16.ensures.0 ∙ c.byte.ensures ∙ ap fact_byte fact)
-          (wrote_number _ _ _ (omega (arith, r.fits, r.scratch_long)));
-      changed =
-          c.either-changed.ensures
-          ∙ changes_more (stays_at C (rule C) same s) l.j
-          (c.differs.ensures ∙ ap₂ (λ (f g : Fact). not (same f g)) fact (c.load.ensures ∙ ap s v))
-          l.invariant.changed;
+          one_begun numbers_laws c.loop-j.invariant.staged h (omega arith)
+          (c.from.ensures ∙ c.byte.ensures ∙ ap fact_byte fact)
+          (wrote_number _ c.loop-j.j _ (omega (arith, c.requires.room, c.loop-j.auto.staging)));
+      changes =
+          changes_more (stays_at C (rule C) same s) c.loop-j.j
+          (search rules
+          ∙ ap₂ (λ (f g : Fact). not (same f g)) fact (c.load.ensures ∙ ap s e))
+          c.loop-j.invariant.changes;
     }

@@ -1,26 +1,22 @@
--- The loop's invariant: the first j registers are staged, and whether one of them changes. The measure is what is
--- left of them.
+-- The loop's invariant: the first j registers are staged, and whether one of them changes.
 -- Assumes nothing.
-use Rattle.std.proofs.Common.{◌≡◌, not, ◌+◌, ◌-◌, ◌≤◌}
+use Rattle.std.proofs.Common.{◌≡◌, not, length}
 use Rattle.net.specs.Tests.{all_below}
 use Rattle.buffer.specs.Store.{numbers}
-use Rattle.circuit.specs.Circuit.{circuit}
-use Rattle.fact.specs.Fact.{same, fact_at}
-use Rattle.fact.specs.Cells.{facts}
+use Rattle.fact.specs.Fact.{same}
 use Rattle.fact.specs.Rule.{rule}
+use Rattle.engine.specs.Plans.{circuit_of}
 use Rattle.engine.specs.Registers.{stays_at}
-use Rattle.engine.proofs.Passes.{Staged}
+use Rattle.engine.specs.Rules.{read_off}
+use Rattle.engine.proofs.Passes.{Begun}
 use Rattle.certificate.specs.Staging.{staged}
-use Rattle.certificate.specs.Promise.{room}
 use Rattle.certificate.proofs.round.stage.Given as goal
 
 abbrev pub invariant-loop-j : goal.invariant-loop-j
-invariant-loop-j l = record {
-  most : l.j ≤ l.registers;
-  staged : Staged facts numbers room l.t l.n l.first l.registers l.cells l.n (l.n + l.n)
-      (staged (circuit l.t l.n) (fact_at l.cells)) l.fn.scratch l.scratch l.j;
-  changed : l.changed ≡ not (all_below (stays_at (circuit l.t l.n) (rule (circuit l.t l.n)) same (fact_at l.cells)) l.j);
-}
-
-abbrev pub decreases-loop-j : goal.decreases-loop-j
-decreases-loop-j l = l.registers - l.j
+invariant-loop-j g l =
+    let C = circuit_of l.plan in
+    let s = read_off g.S.Store.layout (g.S.Store.as_numbers l.cells) in
+    record {
+      staged : Begun numbers (length l.plan.registers.now) (staged C s) l.fn.staging l.staging l.j;
+      changes : l.changed ≡ not (all_below (stays_at C (rule C) same s) l.j);
+    }

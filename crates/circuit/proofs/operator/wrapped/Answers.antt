@@ -1,15 +1,21 @@
 -- Each code's number at 32 bits has the result's remainder at every width.
 -- Assumes nothing.
-use Rattle.std.proofs.Common.{le-ltb, lt-ltb, eq-eqb, ne_eqb}
+use Rattle.std.proofs.Common.{◌≡◌, Bool, true, false, cond, refl, arith}
+use mir.Val.{bool_byte}
 use Rattle.circuit.specs.Operator.{result}
 use Rattle.circuit.proofs.Operators.{add_wraps, sub_wraps, shift_left_wraps, shift_right_wraps}
 use Rattle.circuit.proofs.operator.wrapped.Goals as goal
 
+-- a test as a number
+as_bit : (b : Bool) → bool_byte b ≡ cond b 1 0
+as_bit true = refl
+as_bit false = refl
+
 pub returns-in-0 : goal.returns-in-0
-returns-in-0 c = λ w h. rw c.in-0.is (add_wraps _ _ _ c.wrapping_add_u32.ensures.value w h)
+returns-in-0 c = λ w h. rw c.in-0.is (add_wraps _ _ _ refl w h)
 
 pub returns-in-1 : goal.returns-in-1
-returns-in-1 c = λ w h. rw c.in-1.is (sub_wraps _ _ _ c.wrapping_sub_u32.ensures.value w h)
+returns-in-1 c = λ w h. rw c.in-1.is (sub_wraps _ _ _ (omega arith) w h)
 
 pub returns-in-2 : goal.returns-in-2
 unfolding result
@@ -23,21 +29,13 @@ pub returns-in-4 : goal.returns-in-4
 unfolding result
 returns-in-4 c = λ w h. rw c.in-4.is
 
-pub returns-then-a-b : goal.returns-then-a-b
+pub returns-in-5 : goal.returns-in-5
 unfolding result
-returns-then-a-b c = λ w h. simp (c.in-5.is, eq-eqb _ _ c.if-a-b.true)
+returns-in-5 c = λ w h. rw (c.in-5.is, c.from.ensures, as_bit)
 
-pub returns-else-a-b : goal.returns-else-a-b
+pub returns-in-6 : goal.returns-in-6
 unfolding result
-returns-else-a-b c = λ w h. simp (c.in-5.is, ne_eqb _ _ c.if-a-b.false)
-
-pub returns-then-a-b-2 : goal.returns-then-a-b-2
-unfolding result
-returns-then-a-b-2 c = λ w h. simp (c.in-6.is, lt-ltb _ _ c.if-a-b-2.true)
-
-pub returns-else-a-b-2 : goal.returns-else-a-b-2
-unfolding result
-returns-else-a-b-2 c = λ w h. simp (c.in-6.is, le-ltb _ _ c.if-a-b-2.false)
+returns-in-6 c = λ w h. rw (c.in-6.is, c.from-in-6.ensures, as_bit)
 
 pub returns-in-7 : goal.returns-in-7
 returns-in-7 c = λ w h. rw c.in-7.is (shift_left_wraps _ _ _ c.shift_left.ensures w h)

@@ -4,7 +4,7 @@ use Rattle.std.proofs.Common.{ℕ, Bool, eqb, ltb, leb, ◌∷◌, sym, ap, ◌�
 use Rattle.net.specs.Tests.{every}
 use Rattle.circuit.specs.declared.record.Fields.{Fields}
 use Rattle.circuit.specs.declared.record.Record.{Record}
-use Rattle.circuit.specs.declared.record.ReadRecord.TheVariants.{Read}
+use Rattle.std.specs.Prelude.{Ok}
 use Rattle.circuit.specs.Record.{uses}
 use Rattle.circuit.specs.Reading.{codes, unused}
 use Rattle.circuit.proofs.Lookups.{kind_is, kind_none}
@@ -23,13 +23,13 @@ returns-in_default c =
 
 pub returns-then-bad_width : goal.returns-then-bad_width
 returns-then-bad_width c =
-    let kind = kind_is c.args.f.kind _ (sym c.read_kind.ensures ∙ c.in-Is.is) in
+    let kind = kind_is c.args.f.kind _ (sym c.read_kind.ensures ∙ c.in-Some.is) in
     refused_width c.args.f c.args.n kind.0 (sym c.bad_width.ensures ∙ c.if-bad_width.true)
 
 pub returns-then-unknown_code : goal.returns-then-unknown_code
 returns-then-unknown_code c =
     let f = c.args.f in
-    let kind = kind_is f.kind _ (sym c.read_kind.ensures ∙ c.in-Is.is) in
+    let kind = kind_is f.kind _ (sym c.read_kind.ensures ∙ c.in-Some.is) in
     let width = sym c.bad_width.ensures ∙ c.if-bad_width.false in
     let code =
     ap (λ k. leb (codes k) f.code) (sym kind.1) ∙ sym c.unknown_code.ensures ∙ c.if-unknown_code.true in
@@ -39,7 +39,7 @@ pub returns-then-not-unused_zero : goal.returns-then-not-unused_zero
 unfolding zero_test
 returns-then-not-unused_zero c =
     let f = c.args.f in
-    let kind = kind_is f.kind _ (sym c.read_kind.ensures ∙ c.in-Is.is) in
+    let kind = kind_is f.kind _ (sym c.read_kind.ensures ∙ c.in-Some.is) in
     let width = sym c.bad_width.ensures ∙ c.if-bad_width.false in
     let code =
     ap (λ k. leb (codes k) f.code) (sym kind.1) ∙ sym c.unknown_code.ensures ∙ c.if-unknown_code.false in
@@ -52,7 +52,7 @@ unfolding zero_test below_test
 returns-then-not-uses_below c =
     let f = c.args.f in
     let n = c.args.n in
-    let kind = kind_is f.kind _ (sym c.read_kind.ensures ∙ c.in-Is.is) in
+    let kind = kind_is f.kind _ (sym c.read_kind.ensures ∙ c.in-Some.is) in
     let width = sym c.bad_width.ensures ∙ c.if-bad_width.false in
     let code =
     ap (λ k. leb (codes k) f.code) (sym kind.1) ∙ sym c.unknown_code.ensures ∙ c.if-unknown_code.false in
@@ -62,12 +62,12 @@ returns-then-not-uses_below c =
     ap (below_test n) (sym c.decode-r.ensures) ∙ sym c.uses_below.ensures ∙ c.if-not-uses_below.true in
     refused_variables f n kind.0 width code zeros variables
 
-pub returns-then-too_wide : goal.returns-then-too_wide
+pub returns-then-is_exceeded_by : goal.returns-then-is_exceeded_by
 unfolding zero_test below_test
-returns-then-too_wide c =
+returns-then-is_exceeded_by c =
     let f = c.args.f in
     let n = c.args.n in
-    let kind = kind_is f.kind _ (sym c.read_kind.ensures ∙ c.in-Is.is) in
+    let kind = kind_is f.kind _ (sym c.read_kind.ensures ∙ c.in-Some.is) in
     let width = sym c.bad_width.ensures ∙ c.if-bad_width.false in
     let code =
     ap (λ k. leb (codes k) f.code) (sym kind.1) ∙ sym c.unknown_code.ensures ∙ c.if-unknown_code.false in
@@ -75,14 +75,14 @@ returns-then-too_wide c =
     ap (zero_test f) (sym c.decode-r.ensures) ∙ sym c.unused_zero.ensures ∙ c.if-not-unused_zero.false in
     let variables =
     ap (below_test n) (sym c.decode-r.ensures) ∙ sym c.uses_below.ensures ∙ c.if-not-uses_below.false in
-    refused_value f n kind.0 width code zeros variables (sym c.too_wide.ensures ∙ c.if-too_wide.true)
+    refused_value f n kind.0 width code zeros variables (rw c.width.ensures at (sym c.is_exceeded_by.ensures ∙ c.if-is_exceeded_by.true))
 
 pub returns : goal.returns
 unfolding zero_test below_test
 returns c =
     let f = c.args.f in
     let n = c.args.n in
-    let kind = kind_is f.kind _ (sym c.read_kind.ensures ∙ c.in-Is.is) in
+    let kind = kind_is f.kind _ (sym c.read_kind.ensures ∙ c.in-Some.is) in
     let width = sym c.bad_width.ensures ∙ c.if-bad_width.false in
     let code =
     ap (λ k. leb (codes k) f.code) (sym kind.1) ∙ sym c.unknown_code.ensures ∙ c.if-unknown_code.false in
@@ -90,5 +90,5 @@ returns c =
     ap (zero_test f) (sym c.decode-r.ensures) ∙ sym c.unused_zero.ensures ∙ c.if-not-unused_zero.false in
     let variables =
     ap (below_test n) (sym c.decode-r.ensures) ∙ sym c.uses_below.ensures ∙ c.if-not-uses_below.false in
-    ap Read c.decode-r.ensures
-    ∙ accepted f n kind.0 width code zeros variables (sym c.too_wide.ensures ∙ c.if-too_wide.false)
+    ap Ok c.decode-r.ensures
+    ∙ accepted f n kind.0 width code zeros variables (rw c.width.ensures at (sym c.is_exceeded_by.ensures ∙ c.if-is_exceeded_by.false))

@@ -6,11 +6,11 @@ use Rattle.machine.proofs.checks.check_stimuli.Goals as goal
 
 pub returns-then-s-ne0 : goal.returns-then-s-ne0
 unfolding check_stimuli
-returns-then-s-ne0 c = simp (ne_eqb _ _ c.if-s-ne0.true)
+returns-then-s-ne0 c = rw c.at.ensures (simp (ne_eqb _ _ c.if-s-ne0.true))
 
 pub returns-then-s-gt4096 : goal.returns-then-s-gt4096
 unfolding check_stimuli
-returns-then-s-gt4096 c = simp (eq-eqb _ _ c.if-s-ne0.false, lt-ltb _ _ c.if-s-gt4096.true)
+returns-then-s-gt4096 c = rw c.at-then-s-gt4096.ensures (simp (eq-eqb _ _ c.if-s-ne0.false, lt-ltb _ _ c.if-s-gt4096.true))
 
 pub returns : goal.returns
 unfolding check_stimuli

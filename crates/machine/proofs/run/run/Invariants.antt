@@ -1,16 +1,14 @@
--- The loop's invariant: the reader is at stimulus i, and those before it have acted. The measure is what is left of the
--- list.
+-- The loop's invariant: the reader is at the stimulus behind those that it has given, and they have acted.
 -- Assumes nothing.
-use Rattle.std.proofs.Common.{◌≡◌, ◌-◌, ◌*◌, ◌/◌, ◌≤◌, length}
+use Rattle.std.proofs.Common.{length}
+use Rattle.machine.proofs.Reading.{ReadTo}
 use Rattle.machine.proofs.Running.{RanTo}
 use Rattle.machine.proofs.run.run.Given as goal
 
-abbrev pub invariant-loop-i : goal.invariant-loop-i
-invariant-loop-i l = record {
-  place : l.at ≡ l.i * 8;
-  most : l.i ≤ length l.s / 8;
-  ran : RanTo l.t l.n l.s l.wires l.registers l.fn.scratch l.fn.values l.scratch l.values l.i;
-}
-
-abbrev pub decreases-loop-i : goal.decreases-loop-i
-decreases-loop-i l = length l.s / 8 - l.i
+abbrev pub invariant-loop-read : goal.invariant-loop-read
+invariant-loop-read l =
+    let i = length l.yielded in
+    record {
+      reader : ReadTo l.s i l.read-iterator;
+      ran : RanTo l.plan l.s l.fn.staging l.fn.values l.staging l.values i;
+    }

@@ -1,17 +1,12 @@
--- The loop's invariant: the first k registers have their staged values. The measure is what is left of them.
+-- The loop's invariant: the first k registers have their staged values.
 -- Assumes nothing.
-use Rattle.std.proofs.Common.{◌-◌, ◌≤◌}
 use Rattle.buffer.specs.Store.{numbers, Moves}
-use Rattle.circuit.specs.Circuit.{circuit}
 use Rattle.circuit.specs.Machine as machine
+use Rattle.engine.specs.Plans.{circuit_of}
 use Rattle.engine.proofs.Together.{together}
 use Rattle.machine.proofs.tick.commit.Given as goal
 
 abbrev pub invariant-loop-k : goal.invariant-loop-k
-invariant-loop-k l = record {
-  most : l.k ≤ l.registers;
-  moves : Moves numbers l.n (together (circuit l.t l.n) (machine.values (circuit l.t l.n)) l.k) l.fn.values l.values;
-}
-
-abbrev pub decreases-loop-k : goal.decreases-loop-k
-decreases-loop-k l = l.registers - l.k
+invariant-loop-k l =
+    let C = circuit_of l.plan in
+    Moves numbers l.plan.table.records (together C (machine.values C) l.k) l.fn.values l.values

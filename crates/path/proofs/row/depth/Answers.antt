@@ -11,7 +11,7 @@ loop-i-preserved c =
     let climbed = c.loop-i.invariant in
     let falls : parent c.args.n c.args.s.now i < i =
     c.requires.3 i c.loop-i-test.true (omega (arith, climbed.most)) in
-    climbed_more climbed c.loop-i-test.true falls c.wide-i.ensures.0
+    climbed_more climbed c.loop-i-test.true falls c.from-i.ensures
 
 pub returns : goal.returns
 returns c = climbed_all c.loop-i.invariant (omega arith)

@@ -6,7 +6,7 @@ use Rattle.path.proofs.Seeking.{Seeking}
 use Rattle.path.proofs.search.search.Given as goal
 
 abbrev pub invariant-loop-u : goal.invariant-loop-u
-invariant-loop-u l = Seeking l.t l.n l.v l.initial.s l.s l.head l.tail
+invariant-loop-u l = Seeking l.table l.v l.initial.s l.s l.head l.tail
 
 abbrev pub decreases-loop-u : goal.decreases-loop-u
-decreases-loop-u l = l.n - l.head
+decreases-loop-u l = l.table.records - l.head

@@ -1,81 +1,34 @@
--- The uses in ascending order, each visited once the one before was.
+-- The uses in ascending order, each visited once those before were.
 -- Assumes nothing.
-use Rattle.std.proofs.Common.{arith}
+use Rattle.std.proofs.Common.{refl, arith}
 use Rattle.path.proofs.Queues.{queue_few}
-use Rattle.path.proofs.Visits.{first_below, second_below, third_below, visit_room, second_lent, second_room, third_lent, third_room, uses_visited, begins_same, uses_kept}
+use Rattle.path.proofs.Visits.{use_below, use_room, one_use_visited, uses_visited}
 use Rattle.path.proofs.search.visit_uses.Goals as goal
 
-pub visit-one-requires-clause-room_in_bounds : goal.visit-one-requires-clause-room_in_bounds
-visit-one-requires-clause-room_in_bounds c =
-    let searching = c.requires.searching in
-    let at = c.requires.head_lt_tail in
-    let sorted = c.uses_under-used.ensures in (
-      searching.facts_stand.lent,
-      searching.facts_stand.table.small,
-      omega (arith, at.0, queue_few searching.queue),
-      first_below searching at.0 at.1 sorted,
+pub visit-queued-requires-clause-room_in_bounds : goal.visit-queued-requires-clause-room_in_bounds
+visit-queued-requires-clause-room_in_bounds c =
+    let at = c.requires.v_at_head in
+    let visits = c.loop-u.invariant in
+    let stand = visits.searching.facts_stand in (
+      stand.lent,
+      c.args.table.now.checked.small,
+      omega (arith, at.0, queue_few c.requires.searching.queue),
+      use_below c.requires.searching at.0 at.1 c.uses_under-u-items.ensures visits c.loop-u-test.true refl,
     )
 
-pub visit-one-requires-clause-tail_lt_n : goal.visit-one-requires-clause-tail_lt_n
-visit-one-requires-clause-tail_lt_n c =
-    let searching = c.requires.searching in
-    let at = c.requires.head_lt_tail in
-    let sorted = c.uses_under-used.ensures in
-    visit_room searching (first_below searching at.0 at.1 sorted)
+pub visit-queued-requires-clause-tail_lt_n : goal.visit-queued-requires-clause-tail_lt_n
+visit-queued-requires-clause-tail_lt_n c =
+    let at = c.requires.v_at_head in
+    use_room c.requires.searching at.0 at.1 c.uses_under-u-items.ensures c.loop-u.invariant c.loop-u-test.true refl
 
-pub visit-two-requires-clause-room_in_bounds : goal.visit-two-requires-clause-room_in_bounds
-visit-two-requires-clause-room_in_bounds c =
-    let searching = c.requires.searching in
-    let at = c.requires.head_lt_tail in
-    let sorted = c.uses_under-used.ensures in (
-      second_lent searching at.0 at.1 sorted c.visit-one.ensures,
-      searching.facts_stand.table.small,
-      omega (arith, at.0, queue_few searching.queue),
-      second_below searching at.0 at.1 sorted,
-    )
+pub loop-u-preserved : goal.loop-u-preserved
+loop-u-preserved c =
+    let at = c.requires.v_at_head in
+    one_use_visited c.requires.searching at.0 at.1 c.uses_under-u-items.ensures c.loop-u.invariant
+    c.loop-u-test.true refl c.visit-queued.ensures
 
-pub visit-two-requires-clause-tail_lt_n : goal.visit-two-requires-clause-tail_lt_n
-visit-two-requires-clause-tail_lt_n c =
-    let searching = c.requires.searching in
-    let at = c.requires.head_lt_tail in
-    let sorted = c.uses_under-used.ensures in
-    second_room searching at.0 at.1 sorted c.visit-one.ensures
-
-pub visit-requires-clause-room_in_bounds : goal.visit-requires-clause-room_in_bounds
-visit-requires-clause-room_in_bounds c =
-    let searching = c.requires.searching in
-    let at = c.requires.head_lt_tail in
-    let sorted = c.uses_under-used.ensures in (
-      third_lent searching at.0 at.1 sorted c.visit-one.ensures c.visit-two.ensures,
-      searching.facts_stand.table.small,
-      omega (arith, at.0, queue_few searching.queue),
-      third_below searching at.0 at.1 sorted,
-    )
-
-pub visit-requires-clause-tail_lt_n : goal.visit-requires-clause-tail_lt_n
-visit-requires-clause-tail_lt_n c =
-    let searching = c.requires.searching in
-    let at = c.requires.head_lt_tail in
-    let sorted = c.uses_under-used.ensures in
-    third_room searching at.0 at.1 sorted c.visit-one.ensures c.visit-two.ensures
-
-pub returns-clause-searching_2 : goal.returns-clause-searching_2
-returns-clause-searching_2 c =
-    let searching = c.requires.searching in
-    let at = c.requires.head_lt_tail in
-    let sorted = c.uses_under-used.ensures in
-    uses_visited searching at.0 at.1 sorted c.visit-one.ensures c.visit-two.ensures c.visit.ensures at.2
-
-pub returns-clause-s_unchanged : goal.returns-clause-s_unchanged
-returns-clause-s_unchanged c =
-    let searching = c.requires.searching in
-    let at = c.requires.head_lt_tail in
-    let sorted = c.uses_under-used.ensures in
-    begins_same searching at.0 at.1 sorted c.visit-one.ensures c.visit-two.ensures c.visit.ensures
-
-pub returns-clause-kept_outside : goal.returns-clause-kept_outside
-returns-clause-kept_outside c =
-    let searching = c.requires.searching in
-    let at = c.requires.head_lt_tail in
-    let sorted = c.uses_under-used.ensures in
-    uses_kept searching at.0 at.1 sorted c.visit-one.ensures c.visit-two.ensures c.visit.ensures
+pub returns-clause-searching_after : goal.returns-clause-searching_after
+returns-clause-searching_after c =
+    let at = c.requires.v_at_head in
+    uses_visited c.requires.searching at.0 at.1 c.uses_under-u-items.ensures c.loop-u.invariant
+    c.loop-u-test.false at.2

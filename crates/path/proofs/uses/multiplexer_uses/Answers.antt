@@ -1,37 +1,35 @@
 -- The control's fact says which arms are used: it is read from the scratch, and is the certificate's.
 -- Assumes nothing.
+use Rattle.std.proofs.Common.{sym, ◌∙◌}
+use mathlib.Core.Logic.{⊎_elim}
 use Rattle.path.proofs.Used.{control_lent, multiplexer_uses_lem}
 use Rattle.path.proofs.Used.{sorted_zero, sorted_other, sorted_open, sorted_marked}
 use Rattle.path.proofs.uses.multiplexer_uses.Goals as goal
 
 pub load-control-requires : goal.load-control-requires
 load-control-requires c =
-    control_lent c.requires.facts_stand c.args.v c.requires.v_lt_n c.requires.v_value c.a_at-a.ensures
+    control_lent c.requires.facts_stand c.args.v c.requires.v_in_bounds c.requires.is_multiplexer c.a_at-a.ensures
 
-pub returns-then-m-eq0 : goal.returns-then-m-eq0
-returns-then-m-eq0 c =
+pub returns-in-Always-eq0 : goal.returns-in-Always-eq0
+returns-in-Always-eq0 c =
     let used =
-    multiplexer_uses_lem c.requires.facts_stand c.args.v c.requires.v_lt_n c.requires.v_value c.a_at-a.ensures
+    multiplexer_uses_lem c.requires.facts_stand c.args.v c.requires.v_in_bounds c.requires.is_multiplexer c.a_at-a.ensures
     c.b_at-b.ensures c.c_at-c.ensures c.load-control.ensures in
-    sorted_zero used c.in-Always.is c.if-m-eq0.true c.pair.ensures
+    let zero = c.in-Always-eq0 in
+    sorted_zero used zero.is (sym zero.field-0-is ∙ zero.field-0-test) c.sorted.ensures
 
-pub returns-else-m-eq0 : goal.returns-else-m-eq0
-returns-else-m-eq0 c =
+pub returns-in-Always : goal.returns-in-Always
+returns-in-Always c =
     let used =
-    multiplexer_uses_lem c.requires.facts_stand c.args.v c.requires.v_lt_n c.requires.v_value c.a_at-a.ensures
+    multiplexer_uses_lem c.requires.facts_stand c.args.v c.requires.v_in_bounds c.requires.is_multiplexer c.a_at-a.ensures
     c.b_at-b.ensures c.c_at-c.ensures c.load-control.ensures in
-    sorted_other used c.in-Always.is c.if-m-eq0.false c.pair-else-m-eq0.ensures
+    let other = c.in-Always in
+    sorted_other used other.is (λ e. other.field-0-test.1 (other.field-0-is ∙ e)) c.sorted-in-Always.ensures
 
 pub returns-in-Open : goal.returns-in-Open
 returns-in-Open c =
     let used =
-    multiplexer_uses_lem c.requires.facts_stand c.args.v c.requires.v_lt_n c.requires.v_value c.a_at-a.ensures
+    multiplexer_uses_lem c.requires.facts_stand c.args.v c.requires.v_in_bounds c.requires.is_multiplexer c.a_at-a.ensures
     c.b_at-b.ensures c.c_at-c.ensures c.load-control.ensures in
-    sorted_open used c.in-Open.is c.triple.ensures
-
-pub returns-in-Marked : goal.returns-in-Marked
-returns-in-Marked c =
-    let used =
-    multiplexer_uses_lem c.requires.facts_stand c.args.v c.requires.v_lt_n c.requires.v_value c.a_at-a.ensures
-    c.b_at-b.ensures c.c_at-c.ensures c.load-control.ensures in
-    sorted_marked used c.in-Marked.is c.triple-in-Marked.ensures
+    ⊎_elim (λ e. sorted_open used e c.sorted-in-Open.ensures) (λ e. sorted_marked used e c.sorted-in-Open.ensures)
+    c.in-Open.is

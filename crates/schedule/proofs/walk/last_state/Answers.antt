@@ -7,10 +7,10 @@ use Rattle.schedule.proofs.walk.last_state.Goals as goal
 
 pub wire_uses-requires-clause-v_bound : goal.wire_uses-requires-clause-v_bound
 wire_uses-requires-clause-v_bound c =
-    (records_valid c.args.t.now c.args.n c.requires.checked.valid c.args.v c.requires.v_lt_n).kind
+    (records_valid _ _ c.args.table.checked.valid c.args.v c.requires).kind
 
 pub returns : goal.returns
 returns c =
-    c.wide.ensures.0
+    c.from.ensures
     ∙ c.wire_uses.ensures
-    ∙ sym (last_decode c.args.t.now c.args.n c.args.v c.requires.v_lt_n)
+    ∙ sym (last_decode c.args.table.bytes.now c.args.table.records c.args.v c.requires)

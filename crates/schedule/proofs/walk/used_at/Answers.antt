@@ -6,10 +6,10 @@ use Rattle.schedule.proofs.walk.used_at.Goals as goal
 
 pub use_at-requires-clause-k_in_bounds : goal.use_at-requires-clause-k_in_bounds
 use_at-requires-clause-k_in_bounds c =
-    use_decode c.args.t.now c.args.n c.args.v c.requires.v_lt_n c.args.k c.requires.k_bound
+    use_decode _ _ c.args.v c.requires.v_in_bounds c.args.k c.requires.k_in_bounds
 
 pub returns : goal.returns
 returns c =
-    c.wide.ensures.0
+    c.from.ensures
     ∙ c.use_at.ensures
-    ∙ sym (used_decode c.args.t.now c.args.n c.args.v c.requires.v_lt_n c.args.k)
+    ∙ sym (used_decode c.args.table.bytes.now c.args.table.records c.args.v c.requires.v_in_bounds c.args.k)

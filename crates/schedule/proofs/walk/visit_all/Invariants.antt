@@ -9,9 +9,9 @@ use Rattle.schedule.proofs.walk.visit_all.Given as goal
 
 abbrev pub invariant-loop-w : goal.invariant-loop-w
 invariant-loop-w l = record {
-  walking : Walking l.t l.n l.s l.w;
-  kept : Kept (l.n + l.n) l.fn.s l.s;
+  walking : Walking l.table l.s l.w;
+  kept : Kept (l.table.records + l.table.records) l.fn.s l.s;
 }
 
 abbrev pub decreases-loop-w : goal.decreases-loop-w
-decreases-loop-w l = 6 * l.n - (l.w.root + sum_below (state_of l.n l.s) l.n)
+decreases-loop-w l = 6 * l.table.records - (l.w.root + sum_below (state_of l.table.records l.s) l.table.records)

@@ -1,36 +1,44 @@
--- A turn takes in one digit, or finds that the number needs more than 32 bits.
+-- A turn takes one digit more; what doesn't fit doesn't with more digits behind it.
 -- Assumes nothing.
-use Rattle.std.proofs.Common.{◌+◌, ◌-◌, ◌*◌, drop, get_or, sym, ap, ◌∙◌, arith}
-use Rattle.text.specs.Words.{value, fitted}
-use Rattle.text.proofs.Words.{digit_at, value_digit, value_whole, value_grows, wide_told, number_told}
+use Rattle.std.proofs.Common.{◌≡◌, ◌+◌, ◌-◌, ◌*◌, ◌∙◌, sym, get_or, arith}
+use Rattle.text.proofs.Words.{digits_fit, value_digit, value_whole}
 use Rattle.text.proofs.word.read_digits.Goals as goal
 
-pub overflow_sub-digit : goal.overflow_sub-digit
-overflow_sub-digit c = (digit_at c.args.word.now c.loop-i.i c.requires c.loop-i-test.true).0
-
-pub returns-then-n-gt4294967295 : goal.returns-then-n-gt4294967295
-returns-then-n-gt4294967295 c =
-    let word = c.args.word.now in
-    let i = c.loop-i.i in
-    let n = c.loop-i.n in
-    sym (wide_told (value 0 word) (omega (
+pub returns-in_err-checked_mul : goal.returns-in_err-checked_mul
+returns-in_err-checked_mul c =
+    rw c.from_residual.ensures
+    (λ small. c.in_err-checked_mul.ensures
+    (omega (
       arith,
-      c.loop-i.invariant.same,
-      value_digit word i n c.loop-i-test.true,
-      value_grows (n * 10 + (get_or word i 0 - 48)) (drop (i + 1) word),
+      digits_fit c.args.word.now c.loop-digit.digit-index c.loop-digit.n c.loop-digit-test.true
+          c.loop-digit.invariant.same small,
     )))
 
-pub loop-i-preserved : goal.loop-i-preserved
-loop-i-preserved c = record {
-  most = omega arith;
-  fits = omega arith;
-  same =
-      c.loop-i.invariant.same
-      ∙ value_digit c.args.word.now c.loop-i.i c.loop-i.n c.loop-i-test.true;
-}
+pub returns-in_err-n : goal.returns-in_err-n
+returns-in_err-n c =
+    rw c.from_residual-in_err-n.ensures
+    (λ small. c.in_err-n.ensures
+    (omega (
+      arith,
+      digits_fit c.args.word.now c.loop-digit.digit-index c.loop-digit.n c.loop-digit-test.true
+          c.loop-digit.invariant.same small,
+    )))
+
+pub loop-digit-preserved : goal.loop-digit-preserved
+loop-digit-preserved c =
+    let word = c.args.word.now in
+    let (fits, is) = c.in_ok-n.ensures in
+    let next : c.in_ok-n.n ≡ c.loop-digit.n * 10 + (get_or word c.loop-digit.digit-index 0 - 48) =
+    omega (arith, is, c.in_ok-checked_mul.ensures.1, c.from.ensures) in record {
+      fits = omega (arith, is, fits);
+      same =
+          rw next
+          (c.loop-digit.invariant.same ∙ value_digit word c.loop-digit.digit-index c.loop-digit.n c.loop-digit-test.true);
+    }
 
 pub returns : goal.returns
 returns c =
-    let word = c.args.word.now in
-    let all = c.loop-i.invariant.same ∙ value_whole word c.loop-i.i c.loop-i.n c.loop-i-test.false in
-    sym (ap fitted all ∙ number_told c.loop-i.n c.loop-i.invariant.fits)
+    let whole =
+    c.loop-digit.invariant.same
+    ∙ value_whole c.args.word.now c.loop-digit.digit-index c.loop-digit.n c.loop-digit-test.false in
+    (rw whole c.loop-digit.invariant.fits, sym whole)

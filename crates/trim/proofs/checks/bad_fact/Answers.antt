@@ -1,13 +1,13 @@
--- A checked table's width is at most 32.
+-- A checked table's width is at most 32, and what a number is held against is the width's power.
 -- Assumes nothing.
 use Rattle.std.proofs.Common.{arith}
 use Rattle.circuit.proofs.Tables.{records_valid}
 use Rattle.trim.proofs.checks.bad_fact.Goals as goal
 
-pub power_in-requires-clause-w_bound : goal.power_in-requires-clause-w_bound
-power_in-requires-clause-w_bound c =
+pub width-requires : goal.width-requires
+width-requires c =
     omega (
       arith,
-      c.width_at-w.ensures,
-      (records_valid c.args.t.now c.args.n c.requires.checked.valid c.args.v c.requires.n_in_bounds.1).width_most,
+      c.width_at.ensures,
+      (records_valid _ _ c.args.table.now.checked.valid c.args.v c.requires.1).width_most,
     )

@@ -1,16 +1,9 @@
--- The loop's invariant: what the facts meet is what those from variable i on meet. The measure is the variables left.
+-- The loop's invariant: the facts of the variables before are good.
 -- Assumes nothing.
-use Rattle.std.proofs.Common.{◌≡◌, ◌-◌, ◌≤◌}
-use Rattle.circuit.specs.Circuit.{circuit}
-use Rattle.trim.specs.Order.{check_facts_from}
+use Rattle.std.proofs.Common.{◌≡◌, ℕ, ◌<◌, false}
+use Rattle.circuit.specs.Tables.{circuit_of}
+use Rattle.trim.proofs.Grounds.{bad_at}
 use Rattle.trim.proofs.checks.check_facts.Given as goal
 
-abbrev pub invariant-loop-i : goal.invariant-loop-i
-invariant-loop-i l = record {
-  most : l.i ≤ l.n;
-  found : check_facts_from (circuit l.t l.n) l.certificate l.n 0
-      ≡ check_facts_from (circuit l.t l.n) l.certificate (l.n - l.i) l.i;
-}
-
-abbrev pub decreases-loop-i : goal.decreases-loop-i
-decreases-loop-i l = l.n - l.i
+abbrev pub invariant-loop-v : goal.invariant-loop-v
+invariant-loop-v l = (u : ℕ) → u < l.v → bad_at (circuit_of l.table) l.certificate u ≡ false

@@ -1,35 +1,29 @@
 -- Each ground is tried where those before it do not hold.
 -- Assumes nothing.
-use Rattle.std.proofs.Common.{ℕ, sym, ap, ◌∙◌}
+use Rattle.std.proofs.Common.{sym, ◌∙◌}
+use Rattle.std.proofs.lemmas.Result.{err_from_is_err_and}
 use Rattle.circuit.proofs.Passing.{check_stops, check_goes_on}
-use Rattle.circuit.proofs.Tables.{circuit_length}
-use Rattle.trim.specs.Order.{check_kept}
+use Rattle.trim.proofs.Grounds.{kept_here}
 use Rattle.trim.proofs.checks.check_trim.Goals as goal
 
-pub returns-in_default : goal.returns-in_default
-returns-in_default c =
+pub returns-in_err-check_kept : goal.returns-in_err-check_kept
+returns-in_err-check_kept c =
     let a = c.args in
-    let found =
-    c.check_kept-kept_check.ensures
-    ∙ ap (λ (n : ℕ). check_kept n a.kept.now 0) (sym (circuit_length a.t.now a.n)) in
-    c.in_default.is ∙ check_stops _ _ _ _ _ found c.in_default.is
+    let p = err_from_is_err_and c.from_residual.result c.from_residual.ensures.1 in
+    rw (p.1, p.2)
+    (check_stops _ _ _ _ (c.check_kept.ensures ∙ kept_here _ _ a.kept.now) c.in_err-check_kept.was)
 
-pub returns-in_default-room_check : goal.returns-in_default-room_check
-returns-in_default-room_check c =
+pub returns-in_err-check_room : goal.returns-in_err-check_room
+returns-in_err-check_room c =
     let a = c.args in
-    let found =
-    c.check_kept-kept_check.ensures
-    ∙ ap (λ (n : ℕ). check_kept n a.kept.now 0) (sym (circuit_length a.t.now a.n)) in
-    c.in_default-room_check.is
-    ∙ check_stops _ _ _ _ _ c.check_room-room_check.ensures c.in_default-room_check.is
-    ∙ sym (check_goes_on _ _ _ found c.in-Passed.is)
+    let p = err_from_is_err_and c.from_residual-in_err-check_room.result c.from_residual-in_err-check_room.ensures.1 in
+    rw (p.1, p.2)
+    (check_stops _ _ _ _ c.check_room.ensures c.in_err-check_room.was
+    ∙ sym (check_goes_on _ _ _ (c.check_kept.ensures ∙ kept_here _ _ a.kept.now) c.in_ok-check_kept.was))
 
 pub returns : goal.returns
 returns c =
     let a = c.args in
-    let found =
-    c.check_kept-kept_check.ensures
-    ∙ ap (λ (n : ℕ). check_kept n a.kept.now 0) (sym (circuit_length a.t.now a.n)) in
     c.check_certificate.ensures
-    ∙ sym (check_goes_on _ _ _ c.check_room-room_check.ensures c.in-Passed-room_check.is)
-    ∙ sym (check_goes_on _ _ _ found c.in-Passed.is)
+    ∙ sym (check_goes_on _ _ _ c.check_room.ensures c.in_ok-check_room.was)
+    ∙ sym (check_goes_on _ _ _ (c.check_kept.ensures ∙ kept_here _ _ a.kept.now) c.in_ok-check_kept.was)

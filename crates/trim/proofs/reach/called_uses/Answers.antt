@@ -9,16 +9,16 @@ use Rattle.trim.proofs.reach.called_uses.Goals as goal
 
 pub returns-then-certificate-v-eq-ALWAYS : goal.returns-then-certificate-v-eq-ALWAYS
 returns-then-certificate-v-eq-ALWAYS c =
-    sym (ap length (called_none c.args.t.now c.args.certificate.now c.args.n c.args.v c.requires.n_in_bounds.1
+    sym (ap length (called_none _ c.args.certificate.now _ c.args.v c.requires.1
     c.if-certificate-v-eq-ALWAYS.true))
 
 pub use_count-requires-clause-v_bound : goal.use_count-requires-clause-v_bound
 use_count-requires-clause-v_bound c =
-    (records_valid c.args.t.now c.args.n c.requires.checked.valid c.args.v c.requires.n_in_bounds.1).kind
+    (records_valid _ _ c.args.table.now.checked.valid c.args.v c.requires.1).kind
 
 pub returns : goal.returns
 returns c =
     c.use_count.ensures
     ∙ sym (ap (λ (r : Record). length (uses r))
-    (called_own c.args.t.now c.args.certificate.now c.args.n c.args.v c.requires.n_in_bounds.1
+    (called_own _ c.args.certificate.now _ c.args.v c.requires.1
     c.if-certificate-v-eq-ALWAYS.false))

@@ -5,8 +5,8 @@ use Rattle.trim.proofs.reach.visit_kept.Goals as goal
 
 pub visit-stacked-requires-clause-waiting_lt_n : goal.visit-stacked-requires-clause-waiting_lt_n
 visit-stacked-requires-clause-waiting_lt_n c =
-    kept_room c.requires.by_index c.loop-i.invariant c.loop-i-test.true c.wide.ensures.0
+    kept_room c.requires.kept_below c.loop-u.invariant c.loop-u-test.true c.from.ensures
 
-pub loop-i-preserved : goal.loop-i-preserved
-loop-i-preserved c =
-    one_kept c.requires.by_index c.loop-i.invariant c.loop-i-test.true c.wide.ensures.0 c.visit-stacked.ensures
+pub loop-u-preserved : goal.loop-u-preserved
+loop-u-preserved c =
+    one_kept c.requires.kept_below c.loop-u.invariant c.loop-u-test.true c.from.ensures c.visit-stacked.ensures

@@ -2,27 +2,30 @@
 -- Assumes nothing.
 use Rattle.trim.proofs.Writing.{none_written, still_lent, one_written, none_more}
 use Rattle.trim.proofs.write.write_survivors.Goals as goal
+use Rattle.trim.proofs.write.write_survivors.Goals.{then-remains_at, else-remains_at}
 
-pub loop-i-init : goal.loop-i-init
-loop-i-init c =
-    none_written c.args.t.now c.args.n c.args.certificate.now c.args.s.now c.args.trimmed.now c.args.numbers.now
+pub loop-v-init : goal.loop-v-init
+loop-v-init c =
+    none_written _ _ c.args.certificate.now c.args.s.now c.args.trimmed.now c.args.numbers.now
 
 pub write_survivor-requires-clause-k_in_bounds : goal.write_survivor-requires-clause-k_in_bounds
 write_survivor-requires-clause-k_in_bounds c =
     let a = c.args in
-    still_lent a.t.now a.n a.certificate.now a.s.now a.trimmed.now a.numbers.now c.loop-i.invariant
-    c.loop-i-test.true (c.remains_at.ensures a.n c.loop-i-test.true) c.if-remains_at.true c.requires.n_in_bounds.1
-    c.requires.n_in_bounds.2
+    still_lent _ _ a.certificate.now a.s.now a.trimmed.now a.numbers.now c.loop-v.invariant
+    c.loop-v-test.true c.remains_at.ensures c.if-remains_at.true c.requires.records_in_bounds.1
+    c.requires.records_in_bounds.2
 
-pub loop-i-preserved-then-remains_at : goal.loop-i-preserved-then-remains_at
-loop-i-preserved-then-remains_at c =
+pub loop-v-preserved : goal.loop-v-preserved
+loop-v-preserved c =
     let a = c.args in
-    one_written a.t.now a.n a.certificate.now a.s.now a.trimmed.now a.numbers.now c.loop-i.invariant
-    c.loop-i-test.true (c.remains_at.ensures a.n c.loop-i-test.true) c.if-remains_at.true
-    c.write_survivor.ensures.wrote c.write_survivor.ensures.wrote_2
-
-pub loop-i-preserved : goal.loop-i-preserved
-loop-i-preserved c =
-    let a = c.args in
-    none_more a.t.now a.n a.certificate.now a.s.now a.trimmed.now a.numbers.now c.loop-i.invariant
-    c.loop-i-test.true (c.remains_at.ensures a.n c.loop-i-test.true) c.if-remains_at.false
+    let next = c.remains_at.ensures in
+    elim c.if-remains_at.branch [
+      | then-remains_at w ↦
+          rw (w.trimmed-is, w.numbers-is, w.k-is)
+          (one_written _ _ a.certificate.now a.s.now a.trimmed.now a.numbers.now c.loop-v.invariant
+          c.loop-v-test.true next w.if-remains_at.true w.write_survivor.ensures.record_written w.write_survivor.ensures.number_written)
+      | else-remains_at w ↦
+          rw (w.trimmed-is, w.numbers-is, w.k-is)
+          (none_more _ _ a.certificate.now a.s.now a.trimmed.now a.numbers.now c.loop-v.invariant
+          c.loop-v-test.true next w.if-remains_at.false)
+    ]
