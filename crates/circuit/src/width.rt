@@ -39,7 +39,7 @@ impl Width {
 }
 
 // The powers of two by their widths: entry w is 2 to the w.
-#[derive(Drop)]
+#[derive(Clone, Copy)]
 pub struct PowerTable {
     entries: [u64; 33],
     ghost powers: { Powers entries },

@@ -29,9 +29,11 @@ pub fn settle<S: Store, R: Rule<S>>(table: &Table, wires: &[u16], rule: &R, cell
         (net.settle (graph (circuit_of table.now)) (R.values (circuit_of table.now)))
         (S.as_numbers cells.old) (S.as_numbers cells.new) }
 {
+    // A copy, which no store to the cells can reach: through the reference its fields would be read again for each wire.
+    let table = *table;
     for &wire in wires {
         let v = usize::from(wire);
-        let x = rule.wire(table, cells, v);
+        let x = rule.wire(&table, cells, v);
         S::store(cells, v, x);
     }
 }

@@ -41,7 +41,7 @@ impl Fact {
         ensures { result ≡ facts.join self other }
     {
         match (self, other) {
-            (Fact::Always(m), Fact::Always(n)) if m == n => Fact::Always(m),
+            (Fact::Always(m), Fact::Always(n)) => if m == n { Fact::Always(m) } else { Fact::Open },
             (Fact::Marked, _) | (_, Fact::Marked) => Fact::MARKED,
             _ => Fact::Open,
         }

@@ -5,4 +5,5 @@ pub mod Running
 pub mod Promise
 pub mod Satisfied
 pub mod WidePokes
+pub mod ReaderOwned
 pub mod Reading

@@ -3,13 +3,15 @@
 use mathlib.Core.Path.{◌≡◌, refl, sym, ap, ◌∙◌}
 use mathlib.Core.Logic.{◌⊎◌, inl, inr, ⊎_elim}
 use mathlib.Core.List.{List, ◌++◌}
-use Prim.Native.Nat.{ℕ, ◌+◌, ◌-◌, ◌≤◌, ◌<◌, zero-le}
+use Prim.Native.Nat.{ℕ, ◌+◌, ◌-◌, ◌≤◌, ◌<◌}
 use native.Mathlib.Omega.{arith}
 use borrow.Author.Tests.{le-leb, lt-leb}
+use borrow.Rule.Slice.PartMut.{mid_of, post_of, put_mid, same_len_mid}
 use lib.ListN.{length, get_or, take, drop, length-append, length-drop, get_or-append}
 use lib.Seq.{length-take-le, get_or-take, get_or-drop}
 use Rattle.std.proofs.lemmas.List.{get_or-append_right}
-use Rattle.std.specs.List.{CopiedTo, SameFrom, ReversedBelow, RotatedLeft}
+use Rattle.std.specs.List.{ReversedBelow}
+use Rattle.buffer.specs.Kept.{Filled}
 use Rattle.net.specs.Loop.{Loop, LowestFirst}
 use Rattle.circuit.specs.Circuit.{graph}
 use Rattle.circuit.specs.declared.table.Table.{Table}
@@ -133,25 +135,85 @@ module _ (t : Table) (top u : ℕ) (s exit : List ℕ) (size : ℕ) (stack : Sta
       rw (number 0 (omega arith), rotation_first top shown.p shown.m shown.top_m shown.m_p, number i l)
       (shown.least (at i) b.0 b.1)
 
--- ---- what finding, copying, reversing and rotating gives
+-- ---- what finding, copying and turning gives
 
--- the loop was copied to the front, the copy was reversed, and then rotated until its lowest stood first
-pub shown : (n top u p m : ℕ) (s copied reversed row : List ℕ) → (top ≤ p) × (p < n) × (get_or s p 0 ≡ u)
-    → (top ≤ m) × (m ≤ p) → ((i : ℕ) → top ≤ i → i ≤ p → get_or s m 0 ≤ get_or s i 0) → n + n ≤ length s
-    → length copied ≡ length s → CopiedTo s copied top 0 (p + 1 - top) → SameFrom s copied (0 + (p + 1 - top))
-    → length reversed ≡ length (take (p + 1 - top) copied)
-    → ReversedBelow (take (p + 1 - top) copied) reversed (length (take (p + 1 - top) copied))
-    → length row ≡ length reversed → RotatedLeft reversed row (length reversed) (p - m)
-    → Shown n top u s (row ++ drop (p + 1 - top) copied) (p + 1 - top)
-shown n top u p m s copied reversed row found within least lent copied_length copy same reversed_length back
-    row_length turn =
-    let size : ℕ = p + 1 - top in
-    let taken : length (take size copied) ≡ size = length-take-le size copied (omega arith) in
-    let at_back : (i : ℕ) → i < size → get_or reversed i 0 ≡ get_or s (p - i) 0 = λ i l.
-    back i 0 (omega arith)
-    ∙ get_or-take size copied (length (take size copied) - 1 - i) 0 (omega arith)
-    ∙ copy (length (take size copied) - 1 - i) 0 zero-le (omega arith)
-    ∙ ap (λ (x : ℕ). get_or s x 0) (omega arith) in
+-- a list, its first a numbers and the k behind them each put back the other way round
+module _ (a k : ℕ) (xs ys zs : List ℕ) (lent : a + k ≤ length xs) (ys_length : length ys ≡ length (take a xs))
+    (first : ReversedBelow (take a xs) ys (length (take a xs)))
+    (zs_length : length zs ≡ length (mid_of a k (ys ++ drop a xs)))
+    (second : ReversedBelow (mid_of a k (ys ++ drop a xs)) zs (length (mid_of a k (ys ++ drop a xs)))) where
+  abbrev once : List ℕ
+  once = ys ++ drop a xs
+
+  abbrev twice : List ℕ
+  twice = put_mid a k once zs
+
+  taken : length (take a xs) ≡ a
+  taken = length-take-le a xs (omega arith)
+
+  once_length : length once ≡ length xs
+  once_length = omega (arith, length-append ys (drop a xs), length-drop a xs, ys_length, taken)
+
+  part_length : length (mid_of a k once) ≡ k
+  part_length = length-take-le k (drop a once) (omega (arith, length-drop a once, once_length))
+
+  taken_once : length (take a once) ≡ a
+  taken_once = length-take-le a once (omega (arith, once_length))
+
+  -- behind the first part stands what stood there
+  once_behind : (i : ℕ) → get_or (drop a once) i 0 ≡ get_or xs (a + i) 0
+  once_behind i =
+      get_or-drop a once i 0
+      ∙ get_or-append_right ys (drop a xs) a (a + i) 0 (ys_length ∙ taken) (omega arith)
+      ∙ get_or-drop a xs (a + i - a) 0
+      ∙ ap (λ (x : ℕ). get_or xs x 0) (omega arith)
+
+  turned_first : (i : ℕ) → i < a → get_or twice i 0 ≡ get_or xs (a - 1 - i) 0
+  turned_first i l =
+      get_or-append (take a once) (zs ++ post_of a k once) 0 i (omega (arith, taken_once))
+      ∙ get_or-take a once i 0 l
+      ∙ get_or-append ys (drop a xs) 0 i (omega (arith, ys_length, taken))
+      ∙ first i 0 (omega (arith, taken))
+      ∙ get_or-take a xs (length (take a xs) - 1 - i) 0 (omega (arith, taken))
+      ∙ ap (λ (x : ℕ). get_or xs (x - 1 - i) 0) taken
+
+  turned_second : (i : ℕ) → i < k → get_or twice (a + i) 0 ≡ get_or xs (a + (k - 1 - i)) 0
+  turned_second i l =
+      get_or-append_right (take a once) (zs ++ post_of a k once) a (a + i) 0 taken_once (omega arith)
+      ∙ get_or-append zs (post_of a k once) 0 (a + i - a) (omega (arith, zs_length, part_length))
+      ∙ second (a + i - a) 0 (omega (arith, part_length))
+      ∙ get_or-take k (drop a once) (length (mid_of a k once) - 1 - (a + i - a)) 0 (omega (arith, part_length))
+      ∙ once_behind (length (mid_of a k once) - 1 - (a + i - a))
+      ∙ ap (λ (x : ℕ). get_or xs x 0) (omega (arith, part_length))
+
+  turned_beyond : (i : ℕ) → a + k ≤ i → get_or twice i 0 ≡ get_or xs i 0
+  turned_beyond i l =
+      get_or-append_right (take a once) (zs ++ post_of a k once) a i 0 taken_once (omega arith)
+      ∙ get_or-append_right zs (post_of a k once) k (i - a) 0 (zs_length ∙ part_length) (omega arith)
+      ∙ get_or-drop k (drop a once) (i - a - k) 0
+      ∙ once_behind (k + (i - a - k))
+      ∙ ap (λ (x : ℕ). get_or xs x 0) (omega arith)
+
+  turned_length : length twice ≡ length xs
+  turned_length = same_len_mid a k once zs zs_length ∙ once_length
+
+-- the loop was copied to the front, and what stands up to its lowest and what stands behind that were each turned round
+pub shown : (n top u p m i : ℕ) (s copied front back : List ℕ) → (top ≤ p) × (p < n) × (get_or s p 0 ≡ u)
+    → (top ≤ m) × (m ≤ p) → ((j : ℕ) → top ≤ j → j ≤ p → get_or s m 0 ≤ get_or s j 0) → n + n ≤ length s
+    → i ≡ p + 1 - top → Filled 0 i (λ j. get_or s (top + j) 0) s copied
+    → length front ≡ length (take (m + 1 - top) copied)
+    → ReversedBelow (take (m + 1 - top) copied) front (length (take (m + 1 - top) copied))
+    → length back ≡ length (mid_of (m + 1 - top) (p + 1 - top - (m + 1 - top)) (front ++ drop (m + 1 - top) copied))
+    → ReversedBelow (mid_of (m + 1 - top) (p + 1 - top - (m + 1 - top)) (front ++ drop (m + 1 - top) copied)) back
+    (length (mid_of (m + 1 - top) (p + 1 - top - (m + 1 - top)) (front ++ drop (m + 1 - top) copied)))
+    → Shown n top u s
+    (put_mid (m + 1 - top) (p + 1 - top - (m + 1 - top)) (front ++ drop (m + 1 - top) copied) back) (p + 1 - top)
+shown n top u p m i s copied front back found within least lent all filled front_length first back_length second =
+    let a : ℕ = m + 1 - top in
+    let k : ℕ = p + 1 - top - a in
+    let room : a + k ≤ length copied = omega (arith, filled.long) in
+    let here : (j : ℕ) → j < p + 1 - top → get_or copied j 0 ≡ get_or s (top + j) 0 = λ j l.
+    ap (λ (x : ℕ). get_or copied x 0) (omega arith) ∙ filled.here j (omega arith) in
     record {
       p = p;
       m = m;
@@ -161,24 +223,24 @@ shown n top u p m s copied reversed row found within least lent copied_length co
       at_p = found.2;
       least = least;
       size_is = refl;
-      row = λ i l.
-          get_or-append row (drop size copied) 0 i (omega arith)
-          ∙ by_le (top + i) m
+      row = λ j l.
+          by_le (top + j) m
           (λ h.
-          turn.0 i 0 (omega arith)
-          ∙ at_back (i + (p - m)) (omega arith)
-          ∙ ap (λ (x : ℕ). get_or s x 0) (omega (arith, rotation_down top p m i h)))
+          turned_first a k copied front back room front_length first back_length second j (omega arith)
+          ∙ here (a - 1 - j) (omega arith)
+          ∙ ap (λ (x : ℕ). get_or s x 0) (omega (arith, rotation_down top p m j h)))
           (λ h.
-          turn.1 i 0 (omega arith) (omega arith)
-          ∙ at_back (i + (p - m) - length reversed) (omega arith)
-          ∙ ap (λ (x : ℕ). get_or s x 0) (omega (arith, rotation_on top p m i h)));
+          ap (λ (x : ℕ). get_or (put_mid a k (front ++ drop a copied) back) x 0) (omega arith)
+          ∙ turned_second a k copied front back room front_length first back_length second (j - a) (omega arith)
+          ∙ here (a + (k - 1 - (j - a))) (omega arith)
+          ∙ ap (λ (x : ℕ). get_or s x 0) (omega (arith, rotation_on top p m j h)));
       kept =
           record {
-            long = omega (arith, length-append row (drop size copied), length-drop size copied);
-            beyond = λ i l.
-                get_or-append_right row (drop size copied) size i 0 (omega arith) (omega arith)
-                ∙ get_or-drop size copied (i - size) 0
-                ∙ ap (λ (x : ℕ). get_or copied x 0) (omega arith)
-                ∙ same i 0 (omega arith);
+            long =
+                turned_length a k copied front back room front_length first back_length second
+                ∙ filled.long;
+            beyond = λ j l.
+                turned_beyond a k copied front back room front_length first back_length second j (omega arith)
+                ∙ filled.beyond j (omega arith);
           };
     }

@@ -29,7 +29,8 @@ fn lowest(s: &[u16], top: usize, p: usize) -> usize
 }
 
 // Shows the loop from the place of u down to the top. Its length. Called once at most: inlined, its code slows the walk
-// down.
+// down. Copied by a `for` and turned in two parts: `copy_within` and `rotate_left` need `memmove` and `memcpy` of the C
+// library, of which an archive for C would then have to be given more than `memset`.
 #[cold]
 pub fn show_loop(s: &mut [u16], n: usize, top: usize, u: usize) -> usize
     requires n_in_bounds { (n + n ≤ length s.old) × (n ≤ 4096) × (top < n) }
@@ -39,9 +40,11 @@ pub fn show_loop(s: &mut [u16], n: usize, top: usize, u: usize) -> usize
     let p = find(s, top, n, u);
     let m = lowest(s, top, p);
     let size = p + 1 - top;
-    s.copy_within(top..p + 1, 0);
-    let row = &mut s[..size];
-    row.reverse();
-    row.rotate_left(p - m);
+    for i in 0..size {
+        s[i] = s[top + i];
+    }
+    let turn = m + 1 - top;
+    s[..turn].reverse();
+    s[turn..size].reverse();
     size
 }

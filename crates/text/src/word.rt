@@ -17,6 +17,7 @@ fn all_digits(word: &[u8]) -> bool
 }
 
 // The number that a row of digits stands for, where it needs at most 32 bits.
+#[tactic(auto, using(crate::proofs::Words::digits_fit, crate::proofs::Words::value_digit, crate::proofs::Words::value_whole))]
 fn read_digits(word: &[u8]) -> Option<u32>
     requires { list_all is_digit word.now ≡ true }
     ensures { SomeIff result (value 0 word.now < 2 ^ 32) (value 0 word.now) }

@@ -70,6 +70,7 @@ fn check_certificate(table: &Table, certificate: &[u8], powers: &PowerTable) -> 
 }
 
 // The three in order, of a call that lends this much for the trimmed table and for the list of old numbers.
+#[tactic(auto, using(crate::proofs::Grounds::kept_here, circuit::proofs::Passing::check_stops, circuit::proofs::Passing::check_goes_on))]
 pub fn check_trim(
     table: &Table,
     certificate: &[u8],

@@ -16,6 +16,7 @@ use circuit::record::{Fields, fields_at};
 use circuit::table::{Table, kind_at};
 
 // Whether v remains: it is an input, or its flag in the scratch says that it is visited.
+#[tactic(auto, using(crate::proofs::Numbering::input_remains, crate::proofs::Numbering::other_remains))]
 fn remains_at(table: &Table, s: &[u16], v: usize) -> bool
     requires { (v < table.now.records) × (v < length s.now) }
     ensures { result ≡ remains (circuit_of table.now) s.now v }

@@ -1,5 +1,7 @@
 -- Each turn runs the stimulus that stands at its place, which passed the checks.
 -- Assumes nothing.
+use lib.ListN.{length, take}
+use lib.Seq.{take_all}
 use Rattle.std.proofs.Common.{◌≡◌, sym, subst, arith, length-append}
 use Rattle.net.specs.declared.Stimulus.{Stimulus}
 use Rattle.circuit.specs.Refusal.{passed}
@@ -16,7 +18,10 @@ pub returns-then-s-lt8-clause-moves : goal.returns-then-s-lt8-clause-moves
 returns-then-s-lt8-clause-moves c = all_ran (none_ran c.args.plan.now c.args.s.now {staging = c.args.staging.now}) (omega arith)
 
 pub loop-read-init : goal.loop-read-init
-loop-read-init c = record { reader = record { list = cc; place = cc }; ran = none_ran _ _ }
+loop-read-init c =
+    let s = c.args.s.now in
+    let same : take (length s) s ≡ s = take_all (length s) s (omega arith) in
+    record { reader = record { list = grind (arith, same); place = cc }; ran = none_ran _ _ }
 
 pub act-requires-clause-stimulus_value : goal.act-requires-clause-stimulus_value
 act-requires-clause-stimulus_value c =
